@@ -1,0 +1,125 @@
+-- CLAIMS: the monitor and the plain chart agree over every list of calls. Each is stated of `stepOf`, which is what the step's contract
+-- is an equation with.
+use mathlib.Core.Path.{_≡_, refl, sym, ap, _∙_}
+use mathlib.Core.Bool.{Bool, true, false, cond}
+use mathlib.Core.Logic.{⊎-elim}
+use mathlib.Core.List.{List, [], _∷_, map}
+use Prim.Native.Nat.{ℕ, zero, suc, _+_, _*_, _/_, _%_, _^_, _≤_, _<_}
+use native.Mathlib.Nat.{eq-zero-or-pos, div-div-eq-div-mul, pow-succ', zero-div}
+use native.Mathlib.Omega.{arith}
+use lib.Dec.{ltb, eqb}
+use lib.ListN.{length, getD}
+use Rattle.rules.specs.declared.Rule.{Rule}
+use Rattle.rules.specs.declared.RuleList.{RuleList}
+use Rattle.rules.specs.declared.Checked.the-variants.{Accepted}
+use Rattle.rules.specs.Bounds.{zoneCount}
+use Rattle.rules.specs.Check.{noRule, activeRules, checkOf}
+use Rattle.rules.specs.CheckLaws.{accepted}
+use Rattle.rules.specs.InBounds.{AllInBounds}
+use Rattle.rules.specs.Mask.{bit, maskOf}
+use Rattle.monitor.specs.declared.Monitor.{Monitor}
+use Rattle.monitor.specs.Step.{maxCount, freshMonitor, acceptedStep, stepOf}
+use Rattle.monitor.specs.ReferenceChart.{Answer, refused, quiet, signal, ruleHolds, rowMask, charted, chartBy, chartStep, chartAnswers}
+use Rattle.monitor.specs.Calls.{monitorAnswers, refusalNumber, EachAnswer, ZonesExist}
+use Rattle.monitor.specs.CallLaws.{monitorOfRow, fresh-of-row, one-call, chart-quiet, chart-signal}
+use Rattle.monitor.specs.RowLaws.{empty-row-mask}
+
+-- ---- agreement
+
+module _ (l : RuleList) (a : checkOf l ≡ Accepted) where
+  rules-accepted : (m : Monitor) (z : ℕ) → stepOf l m z ≡ acceptedStep (activeRules l) m z
+  unfolding stepOf
+  rules-accepted m z = rw a
+
+  agree-from : (zs row : List ℕ) → rowMask (activeRules l) row ≡ 0 → monitorAnswers l (monitorOfRow (activeRules l) row) zs ≡ chartAnswers (activeRules l) row zs
+  unfolding monitorAnswers chartAnswers
+  agree-from [] row e = refl
+  agree-from (z ∷ zs) row e =
+      let t = one-call (activeRules l) (accepted l a .2) row e z in
+      rw (
+        rules-accepted (monitorOfRow (activeRules l) row) z,
+        t .answer,
+        t .after,
+        agree-from zs (chartStep (activeRules l) row z .row) (t .quiet-row),
+      )
+
+  -- To EVERY list of calls with an accepted rule list, refused calls included, the monitor from fresh gives the answers of the plain chart
+  -- from an empty row: refusal number, quiet or signal, count, mask.
+  pub agreement : (zs : List ℕ) → monitorAnswers l freshMonitor zs ≡ chartAnswers (activeRules l) [] zs
+  agreement zs =
+      ap (λ (m : Monitor). monitorAnswers l m zs) (fresh-of-row (activeRules l))
+      ∙ agree-from zs [] (empty-row-mask (activeRules l) (accepted l a .2))
+
+-- ---- what the mask says
+
+digit-of-mask : (t : Bool) (x : ℕ) → (bit t + 2 * x) / 2 ^ 0 % 2 ≡ bit t
+digit-of-mask true x = omega arith
+digit-of-mask false x = omega arith
+
+digits-of-mask : (t : Bool) (x : ℕ) → (bit t + 2 * x) / 2 ≡ x
+digits-of-mask true x = omega arith
+digits-of-mask false x = omega arith
+
+mask-digit : (ts : List Bool) (i : ℕ) → maskOf ts / 2 ^ i % 2 ≡ bit (getD ts i false)
+unfolding maskOf
+mask-digit [] i = rw (zero-div (2 ^ i))
+mask-digit (t ∷ ts) zero = digit-of-mask t (maskOf ts)
+mask-digit (t ∷ ts) (suc i) =
+    ap (λ (p : ℕ). (bit t + 2 * maskOf ts) / p % 2) (pow-succ' 2 i)
+    ∙ ap (λ (p : ℕ). p % 2) (sym (div-div-eq-div-mul (bit t + 2 * maskOf ts) 2 (2 ^ i)) ∙ ap (λ (p : ℕ). p / 2 ^ i) (digits-of-mask t (maskOf ts)))
+    ∙ mask-digit ts i
+
+tests-at : (row : List ℕ) (rs : List Rule) (i : ℕ) → i < length rs → getD (map (ruleHolds row) rs) i false ≡ ruleHolds row (getD rs i noRule)
+tests-at row [] i h = absurd (omega arith)
+tests-at row (r ∷ rs) zero h = refl
+tests-at row (r ∷ rs) (suc i) h = tests-at row rs i (omega arith)
+
+-- Bit i of the mask is set exactly when rule i's T(k,m,Z) holds over the row.
+pub mask-names-rules : (rs : List Rule) (row : List ℕ) (i : ℕ) → i < length rs → rowMask rs row / 2 ^ i % 2 ≡ bit (ruleHolds row (getD rs i noRule))
+unfolding rowMask
+mask-names-rules rs row i h = mask-digit (map (ruleHolds row) rs) i ∙ ap bit (tests-at row rs i h)
+
+-- ---- which calls are refused
+
+-- the chart refuses by 6 and 7 alone
+not-five : (rs : List Rule) (row : List ℕ) (z : ℕ) → refusalNumber (chartStep rs row z .answer) ≡ 5 → ⊥
+unfolding chartStep
+not-five rs row z = go (ltb z zoneCount) (ltb (length row) 4294967295) (eqb (rowMask rs (z ∷ row)) 0)
+  where
+    go : (zone count quiet-here : Bool) → refusalNumber (cond zone (cond count (cond quiet-here (charted (quiet (length (z ∷ row))) (z ∷ row)) (charted (signal (length (z ∷ row)) (rowMask rs (z ∷ row))) [])) (charted (refused 7) row)) (charted (refused 6) row) .answer) ≡ 5 → ⊥
+    go true true true e = omega arith
+    go true true false e = omega arith
+    go true false t e = omega arith
+    go false s t e = omega arith
+
+never-five : (rs : List Rule) (row zs : List ℕ) → EachAnswer (λ a. refusalNumber a ≡ 5 → ⊥) (chartAnswers rs row zs)
+unfolding chartAnswers EachAnswer
+never-five rs row [] = tt
+never-five rs row (z ∷ zs) = (not-five rs row z, never-five rs (chartStep rs row z .row) zs)
+
+-- No call in such a list gets 5: the state that the last call returned can always be given again.
+pub no-call-gets-5 : (l : RuleList) → checkOf l ≡ Accepted → (zs : List ℕ) → EachAnswer (λ a. refusalNumber a ≡ 5 → ⊥) (monitorAnswers l freshMonitor zs)
+no-call-gets-5 l a zs = rw (agreement l a zs) (never-five (activeRules l) [] zs)
+
+-- a zone that exists on a row that is not full is taken, and the row grows by one at most
+record Taken (row : List ℕ) (a : Answer) (after : List ℕ) : Type 0 where
+  accepted : refusalNumber a ≡ 0
+  grows : length after ≤ suc (length row)
+
+taken : (rs : List Rule) (row : List ℕ) (z : ℕ) → z < zoneCount → length row < maxCount → Taken row (chartStep rs row z .answer) (chartStep rs row z .row)
+taken rs row z zone q =
+    ⊎-elim
+    (λ (n : rowMask rs (z ∷ row) ≡ 0). rw (chart-quiet rs row z zone q n) record { accepted = refl; grows = omega arith })
+    (λ (n : 0 < rowMask rs (z ∷ row)). rw (chart-signal rs row z zone q (λ y. omega arith)) record { accepted = refl; grows = omega arith })
+    (eq-zero-or-pos (rowMask rs (z ∷ row)))
+
+all-taken : (rs : List Rule) (row zs : List ℕ) → ZonesExist zs → length row + length zs ≤ maxCount → EachAnswer (λ a. refusalNumber a ≡ 0) (chartAnswers rs row zs)
+unfolding chartAnswers EachAnswer ZonesExist
+all-taken rs row [] p q = tt
+all-taken rs row (z ∷ zs) p q =
+    let t = taken rs row z (p .0) (omega arith) in
+    (t .accepted, all-taken rs (chartStep rs row z .row) zs (p .1) (omega (arith, t .grows)))
+
+-- A list of at most 2^32 - 1 calls whose zones all exist has no refused call.
+pub no-refused-call : (l : RuleList) → checkOf l ≡ Accepted → (zs : List ℕ) → ZonesExist zs → length zs ≤ 4294967295 → EachAnswer (λ a. refusalNumber a ≡ 0) (monitorAnswers l freshMonitor zs)
+no-refused-call l a zs p q = rw (agreement l a zs) (all-taken (activeRules l) [] zs p (omega arith))

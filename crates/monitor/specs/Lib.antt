@@ -1,0 +1,15 @@
+pub mod Zone
+pub mod ZoneLaws
+pub mod Window
+pub mod WindowLaws
+pub mod State
+pub mod ForgetLaws
+pub mod ValidLaws
+pub mod StateLaws
+pub mod Step
+pub mod StepLaws
+pub mod ReferenceChart
+pub mod Calls
+pub mod RowLaws
+pub mod CallLaws
+pub mod Agreement

@@ -1,0 +1,53 @@
+-- What a step with accepted rules answers, case by case.
+use mathlib.Core.Path.{_≡_, refl, sym, ap, _∙_}
+use mathlib.Core.Bool.{Bool, true, false}
+use mathlib.Core.List.{List}
+use Prim.Native.Nat.{ℕ, _+_, _≤_, _<_}
+use borrow.Author.Tests.{lt-ltb, le-ltb, eq-eqb, ne-eqb}
+use Rattle.rules.specs.declared.Rule.{Rule}
+use Rattle.rules.specs.Bounds.{zoneCount}
+use Rattle.rules.specs.Refusal.{badState, badZone, badCount}
+use Rattle.monitor.specs.declared.Monitor.{Monitor}
+use Rattle.monitor.specs.declared.Move.the-variants.{Quiet, Signal}
+use Rattle.monitor.specs.declared.Step.{Step}
+use Rattle.monitor.specs.declared.Step.the-variants.{Refused}
+use Rattle.monitor.specs.State.{validState, stateMask, nextState, moveOf}
+use Rattle.monitor.specs.Step.{maxCount, monitorAt, freshMonitor, answerBy, acceptedStep}
+
+-- ---- the move
+
+module _ (rs : List Rule) (s z : ℕ) where
+  pub move-signal : (stateMask rs s z ≡ 0 → ⊥) → moveOf rs s z ≡ Signal
+  unfolding moveOf
+  move-signal e = rw (ne-eqb (stateMask rs s z) 0 e)
+
+  pub move-quiet : stateMask rs s z ≡ 0 → moveOf rs s z ≡ Quiet (nextState rs s z)
+  unfolding moveOf
+  move-quiet e = rw (eq-eqb (stateMask rs s z) 0 e)
+
+-- ---- the step
+
+pub step-bad-zone : (rs : List Rule) (m : Monitor) (z : ℕ) → zoneCount ≤ z → acceptedStep rs m z ≡ Refused badZone
+unfolding acceptedStep
+step-bad-zone rs m z h = rw (le-ltb z zoneCount h)
+
+module _ (rs : List Rule) (m : Monitor) (z : ℕ) (zone : z < zoneCount) where
+  pub step-bad-state : validState (m .count) rs (m .state) ≡ false → acceptedStep rs m z ≡ Refused badState
+  unfolding acceptedStep
+  step-bad-state f = rw (lt-ltb z zoneCount zone, f)
+
+  module _ (valid : validState (m .count) rs (m .state) ≡ true) where
+    pub step-bad-count : maxCount ≤ m .count → acceptedStep rs m z ≡ Refused badCount
+    unfolding acceptedStep
+    step-bad-count h = rw (lt-ltb z zoneCount zone, valid, le-ltb (m .count) maxCount h)
+
+    -- an accepted step is its move, with the count
+    pub step-move : m .count < maxCount → acceptedStep rs m z ≡ answerBy (moveOf rs (m .state) z) (stateMask rs (m .state) z) (m .count + 1)
+    unfolding acceptedStep
+    step-move h = rw (lt-ltb z zoneCount zone, valid, lt-ltb (m .count) maxCount h)
+
+    pub step-signal : m .count < maxCount → (stateMask rs (m .state) z ≡ 0 → ⊥) → acceptedStep rs m z ≡ Step.Signal (m .count + 1) (stateMask rs (m .state) z) freshMonitor
+    step-signal h e = step-move h ∙ rw (move-signal rs (m .state) z e)
+
+    pub step-quiet : m .count < maxCount → stateMask rs (m .state) z ≡ 0 → acceptedStep rs m z ≡ Step.Quiet (m .count + 1) (monitorAt (nextState rs (m .state) z) (m .count + 1))
+    step-quiet h e = step-move h ∙ rw (move-quiet rs (m .state) z e)

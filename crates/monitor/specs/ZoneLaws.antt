@@ -1,0 +1,50 @@
+-- Laws of the offset of a reading: two signed numbers, each 2^31 higher, have the same difference.
+use mathlib.Core.Path.{_≡_, refl, sym, ap, _∙_}
+use Prim.Native.Nat.{ℕ, zero, suc, _+_, _-_, _≤_, _<_, _^_}
+use native.Mathlib.Omega.{arith}
+use lib.IntN.{ℤ, pos, negsuc, _+ℤ_, _-ℤ_, negℤ, negℤ-+ℤ, +ℤ-assoc, +ℤ-comm, +ℤ-invr, +ℤ-idl}
+use lib.Signed.{mag}
+use lib.Dec.{ltb}
+use borrow.Author.Tests.{lt-ltb, le-ltb, le-leb}
+use Rattle.monitor.specs.Zone.{minSigma, maxSigma, zoneA1, zoneB1, zoneC1, zoneC2, zoneB2, zoneA2, band, zoneAt, zoneOf}
+use Rattle.monitor.specs.declared.zone.Zoned.the-variants.{Zone}
+
+-- a signed number of 32 bits, 2^31 higher, is no number below 0
+pub raised : (z : ℤ) → mag z < 2 ^ 31 → (n : ℕ) × (z +ℤ pos 2147483648 ≡ pos n) × (n < 2 ^ 32)
+raised (pos a) h = (a + 2147483648, refl, omega arith)
+raised (negsuc a) h = (2147483648 - suc a, rw (le-ltb 2147483648 (suc a) (omega arith)), omega arith)
+
+-- the same number added to both leaves the difference
+same-difference : (r c b : ℤ) → (r +ℤ b) -ℤ (c +ℤ b) ≡ r -ℤ c
+same-difference r c b =
+    ap (λ (t : ℤ). (r +ℤ b) +ℤ t) (negℤ-+ℤ c b)
+    ∙ +ℤ-assoc r b (negℤ c +ℤ negℤ b)
+    ∙ ap (λ (t : ℤ). r +ℤ t) (
+    ap (λ (t : ℤ). b +ℤ t) (+ℤ-comm (negℤ c) (negℤ b))
+    ∙ sym (+ℤ-assoc b (negℤ b) (negℤ c))
+    ∙ ap (λ (t : ℤ). t +ℤ negℤ c) (+ℤ-invr b)
+    ∙ +ℤ-idl (negℤ c))
+
+at-below : (a b sigma : ℕ) → a < b → zoneAt (pos a -ℤ pos b) sigma ≡ band sigma (b - a) zoneC2 zoneB2 zoneA2
+at-below a zero sigma h = absurd (omega arith)
+at-below a (suc b) sigma h = let e : suc (suc b - suc a) ≡ suc b - a = omega arith in rw (lt-ltb a (suc b) h, ← e)
+
+at-above : (a b sigma : ℕ) → b ≤ a → zoneAt (pos a -ℤ pos b) sigma ≡ band sigma (a - b) zoneC1 zoneB1 zoneA1
+at-above a zero sigma h = let e : a + 0 ≡ a - 0 = omega arith in rw e
+at-above a (suc b) sigma h = rw (le-ltb a (suc b) h)
+
+-- a and b are the reading and the centre, 2^31 higher
+module _ (reading centre : ℤ) (a b sigma : ℕ) (low : minSigma ≤ sigma) (high : sigma ≤ maxSigma)
+    (ea : pos a ≡ reading +ℤ pos 2147483648) (eb : pos b ≡ centre +ℤ pos 2147483648) where
+  zone-at : zoneOf reading centre sigma ≡ Zone (zoneAt (pos a -ℤ pos b) sigma)
+  unfolding zoneOf
+  zone-at = simp (le-leb minSigma sigma low, le-leb sigma maxSigma high) (ap (λ (t : ℤ). Zone (zoneAt t sigma)) (
+      sym (same-difference reading centre (pos 2147483648))
+      ∙ sym (ap (λ (t : ℤ). t -ℤ (centre +ℤ pos 2147483648)) ea)
+      ∙ sym (ap (λ (t : ℤ). pos a -ℤ t) eb)))
+
+  pub zone-below : a < b → zoneOf reading centre sigma ≡ Zone (band sigma (b - a) zoneC2 zoneB2 zoneA2)
+  zone-below h = zone-at ∙ ap Zone (at-below a b sigma h)
+
+  pub zone-above : b ≤ a → zoneOf reading centre sigma ≡ Zone (band sigma (a - b) zoneC1 zoneB1 zoneA1)
+  zone-above h = zone-at ∙ ap Zone (at-above a b sigma h)

@@ -1,0 +1,119 @@
+// The monitor: a chart that keeps only what its rules still need to remember.
+use rules::Checked;
+use rules::Refusal;
+use rules::RuleList;
+use rules::ZONES;
+ghost use mathlib.Core.Path.{_≡_};
+ghost use Prim.Native.Nat.{_≤_, _<_};
+ghost use Rattle.rules.specs.Bounds.{zoneCount, maxRules};
+ghost use Rattle.rules.specs.Check.{activeRules};
+ghost use Rattle.rules.specs.InBounds.{AllInBounds};
+ghost use Rattle.monitor.specs.State.{moveOf};
+ghost use Rattle.monitor.specs.Step.{acceptedStep, freshMonitor, stepOf};
+
+mod state;
+mod window;
+pub mod zone;
+
+// The state (document 01's standing): the window of rule i is digit i in base 256, and in it the hit of age a is digit a - 1 in base 2.
+// The count: the points since the last reset.
+pub struct Monitor {
+    pub state: u64,
+    pub count: u32,
+}
+
+// What a step answers: the count with this point in it, the mask of all rules that hold, and the monitor for the next point.
+pub enum Step {
+    Refused(Refusal),
+    Quiet {
+        count: u32,
+        next: Monitor,
+    },
+    Signal {
+        count: u32,
+        mask: u32,
+        next: Monitor,
+    },
+}
+
+// What a point does to a state, whatever the count.
+pub enum Move {
+    Quiet(u64),
+    Signal,
+}
+
+// The move by state and zone, for rules that are accepted.
+pub fn move_of(list: RuleList, state: u64, zone: u32) -> Move
+    requires { ⌜ (list .len ≤ maxRules) × AllInBounds (activeRules list) × (zone < zoneCount) ⌝ }
+    ensures { λ r. ⌜ r ≡ moveOf (activeRules list) state zone ⌝ }
+{
+    if state::mask(list, 0, state, zone) == 0 {
+        Move::Quiet(state::next_state(list, 0, state, zone))
+    } else {
+        Move::Signal
+    }
+}
+
+impl Monitor {
+    // The largest count; at it no further point is taken.
+    pub const MAX_COUNT: u32 = 4294967295;
+
+    // The empty state and count 0.
+    pub fn fresh() -> Monitor
+        ensures { λ r. ⌜ r ≡ freshMonitor ⌝ }
+    {
+        Monitor { state: 0, count: 0 }
+    }
+
+    // A step with rules that are accepted: 6, 5, 7, or the answer.
+    fn accepted_step(self, list: RuleList, zone: u32) -> Step
+        requires { ⌜ (list .len ≤ maxRules) × AllInBounds (activeRules list) ⌝ }
+        ensures { λ r. ⌜ r ≡ acceptedStep (activeRules list) self zone ⌝ }
+    {
+        if zone >= ZONES as u32 {
+            return Step::Refused(Refusal {
+                number: Refusal::ZONE,
+                place: 0,
+            });
+        }
+        let state = self.state;
+        let points = self.count;
+        if !state::valid_state(list, points, state) {
+            return Step::Refused(Refusal {
+                number: Refusal::STATE,
+                place: 0,
+            });
+        }
+        if points >= Monitor::MAX_COUNT {
+            return Step::Refused(Refusal {
+                number: Refusal::COUNT,
+                place: 0,
+            });
+        }
+        let count = points + 1;
+        let mask = state::mask(list, 0, state, zone);
+        if mask != 0 {
+            return Step::Signal {
+                count,
+                mask,
+                next: Monitor { state: 0, count: 0 },
+            };
+        }
+        let next = state::next_state(list, 0, state, zone);
+        Step::Quiet {
+            count,
+            next: Monitor { state: next, count },
+        }
+    }
+
+    // One point: refused by 2, 3, 4; 6; 5; 7, in this order; else quiet or signal.
+    pub fn step(self, list: RuleList, zone: u32) -> Step
+        ensures { λ r. ⌜ r ≡ stepOf list self zone ⌝ }
+    {
+        let checked = list.check();
+        match checked {
+            Checked::Refused(refusal) => Step::Refused(refusal),
+            Checked::Accepted => self.accepted_step(list, zone),
+        }
+    }
+}

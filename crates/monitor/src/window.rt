@@ -1,0 +1,96 @@
+// One rule's window: the hits that the rule still needs, the hit of age a at digit a - 1 in base 2.
+use rules::Rule;
+use rules::RuleList;
+ghost use mathlib.Core.Path.{_≡_};
+ghost use Prim.Native.Nat.{_+_, _-_, _*_, _≤_, _<_, min};
+ghost use Rattle.rules.specs.Bounds.{zoneCount};
+ghost use Rattle.rules.specs.InBounds.{InBounds};
+ghost use Rattle.rules.specs.Mask.{bit};
+ghost use Rattle.rules.specs.ZoneSet.{inZoneSet};
+ghost use Rattle.monitor.specs.Window.{maxAge, windowBase, hitsUpTo, live, nextWindow, windowHolds, validWindow};
+
+// The oldest age that any rule can remember, and the number of different windows.
+const MAX_AGE: u32 = RuleList::MAX_WINDOW - 1;
+
+pub(crate) const BASE: u64 = 1 << MAX_AGE;
+
+// 1 if the zone is in the set, else 0.
+fn hit(zones: u32, zone: u32) -> u64
+    requires { ⌜ zone < zoneCount ⌝ }
+    ensures { λ h. ⌜ h ≡ inZoneSet zones zone ⌝ }
+{
+    ((zones >> zone) % 2) as u64
+}
+
+// The live hits of a window whose first age has `seen` newer hits and leaves the last m after `room` more points.
+fn live_hits(k: u64, seen: u64, room: u64, window: u64) -> u64
+    requires { ⌜ (seen + room ≤ 2 * maxAge) × (window < 2 * windowBase) ⌝ }
+    ensures { λ n. ⌜ n ≡ live k seen room window ⌝ }
+{
+    if room == 0 {
+        return 0;
+    }
+    let b = window % 2;
+    let older = live_hits(k, seen + b, room - 1, window / 2);
+    if k <= seen + b + room {
+        b + 2 * older
+    } else {
+        2 * older
+    }
+}
+
+// How many hits a window has.
+fn hits(window: u64) -> u64
+    ensures { λ n. ⌜ n ≡ hitsUpTo maxAge window ⌝ }
+{
+    let mut older = window;
+    let mut sum = 0;
+    let mut ages: u64 = MAX_AGE as u64;
+    while ages > 0 {
+        sum += older % 2;
+        older = older / 2;
+        ages -= 1;
+    }
+    sum
+}
+
+// The window with one more point in it, and what is then remembered.
+pub(crate) fn next_window(rule: Rule, window: u64, zone: u32) -> u64
+    requires { ⌜ InBounds rule × (window < windowBase) × (zone < zoneCount) ⌝ }
+    ensures { λ n. ⌜ n ≡ nextWindow rule window zone ⌝ }
+{
+    let h = hit(rule.zones, zone);
+    live_hits(rule.k as u64, 0, (rule.m - 1) as u64, h + 2 * window)
+}
+
+// 1 if the rule holds with a point in the zone, else 0.
+pub(crate) fn holds(rule: Rule, window: u64, zone: u32) -> u32
+    requires { ⌜ zone < zoneCount ⌝ }
+    ensures { λ n. ⌜ n ≡ bit (windowHolds rule window zone) ⌝ }
+{
+    let h = hit(rule.zones, zone);
+    let older = hits(window);
+    if rule.k as u64 <= h + older { 1 } else { 0 }
+}
+
+// The points counted, or the oldest age where they are more.
+fn oldest(count: u32) -> u32
+    ensures { λ r. ⌜ r ≡ min count maxAge ⌝ }
+{
+    if count < MAX_AGE { count } else { MAX_AGE }
+}
+
+// Whether the window can be given with this many points.
+pub(crate) fn valid_window(count: u32, rule: Rule, window: u64) -> bool
+    requires { ⌜ InBounds rule × (window < windowBase) ⌝ }
+    ensures { λ t. ⌜ t ≡ validWindow count rule window ⌝ }
+{
+    let k = rule.k as u64;
+    if k <= hits(window) {
+        return false;
+    }
+    if live_hits(k, 0, (rule.m - 1) as u64, window) != window {
+        return false;
+    }
+    window >> oldest(count) == 0
+}

@@ -1,0 +1,83 @@
+// The zone of a reading.
+use rules::Refusal;
+ghost use mathlib.Core.Path.{_≡_};
+ghost use Prim.Native.Nat.{_+_, _≤_, _<_};
+ghost use lib.IntN.{pos, _+ℤ_};
+ghost use Rattle.monitor.specs.Zone.{zoneOf, band, maxSigma};
+
+pub enum Zoned {
+    Zone(u32),
+    Refused(Refusal),
+}
+
+impl Zoned {
+    // The bounds of sigma (document 01's step d).
+    pub const MIN_SIGMA: u32 = 1;
+
+    pub const MAX_SIGMA: u32 = 65535;
+
+    // The zones by number.
+    pub const S: u32 = 0;
+
+    pub const A1: u32 = 1;
+
+    pub const B1: u32 = 2;
+
+    pub const C1: u32 = 3;
+
+    pub const C2: u32 = 4;
+
+    pub const B2: u32 = 5;
+
+    pub const A2: u32 = 6;
+}
+
+// A signed number as an unsigned one, 2^31 higher, so that differences stay unsigned.
+fn biased(x: i32) -> u64
+    ensures { λ r. ⌜ pos r ≡ x +ℤ pos 2147483648 ⌝ }
+{
+    ((x as i64) + 2147483648) as u64
+}
+
+// The band of a distance from the centre: within one sigma, two, three, or outside.
+fn band_of(sigma: u32, distance: u64, one: u32, two: u32, three: u32) -> u32
+    requires { ⌜ sigma ≤ maxSigma ⌝ }
+    ensures { λ z. ⌜ z ≡ band sigma distance one two three ⌝ }
+{
+    let width = sigma as u64;
+    if distance <= width {
+        return one;
+    }
+    if distance <= 2 * width {
+        return two;
+    }
+    if distance <= 3 * width {
+        return three;
+    }
+    Zoned::S
+}
+
+// The zone of a reading on a chart with this centre and sigma: refused by 1 where sigma is out of bounds.
+pub fn zone_of(reading: i32, centre: i32, sigma: u32) -> Zoned
+    ensures { λ z. ⌜ z ≡ zoneOf reading centre sigma ⌝ }
+{
+    if sigma < Zoned::MIN_SIGMA {
+        return Zoned::Refused(Refusal {
+            number: Refusal::SIGMA,
+            place: 0,
+        });
+    }
+    if sigma > Zoned::MAX_SIGMA {
+        return Zoned::Refused(Refusal {
+            number: Refusal::SIGMA,
+            place: 0,
+        });
+    }
+    let at = biased(reading);
+    let middle = biased(centre);
+    if at < middle {
+        Zoned::Zone(band_of(sigma, middle - at, Zoned::C2, Zoned::B2, Zoned::A2))
+    } else {
+        Zoned::Zone(band_of(sigma, at - middle, Zoned::C1, Zoned::B1, Zoned::A1))
+    }
+}

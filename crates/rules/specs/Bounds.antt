@@ -1,0 +1,31 @@
+-- The number of zones and the bounds of a rule list, each written here once. Definitions.
+use Prim.Native.Nat.{ℕ, _-_, _^_}
+
+-- zones are the numbers below it
+abbrev pub zoneCount : ℕ
+zoneCount = 7
+
+-- a list has this many rules
+abbrev pub minRules : ℕ
+minRules = 1
+
+abbrev pub maxRules : ℕ
+maxRules = 8
+
+-- a rule's m
+abbrev pub minWindow : ℕ
+minWindow = 1
+
+abbrev pub maxWindow : ℕ
+maxWindow = 9
+
+-- a rule's k is at least this, and at most its m
+abbrev pub minHits : ℕ
+minHits = 1
+
+-- a rule's zone set: at least one zone, at most all of them
+abbrev pub minZoneSet : ℕ
+minZoneSet = 1
+
+abbrev pub maxZoneSet : ℕ
+maxZoneSet = 2 ^ zoneCount - 1

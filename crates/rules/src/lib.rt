@@ -1,0 +1,191 @@
+// Rule lists: the number of zones, the bounds, the two ready lists, the check, and what a refusal is.
+ghost use mathlib.Core.Path.{_≡_};
+ghost use Rattle.rules.specs.Check.{checkOf, checkRule};
+ghost use Rattle.rules.specs.Ready.{ruleOf, westernElectric, duncanList};
+
+// How many zones the chart has: they are numbered from 0. Nothing else says it.
+pub const ZONES: usize = 7;
+
+// Document 01's T(k,m,Z): signals when at least k of the last m points lie in the zones of the set, written as the sum of 2^zone.
+pub struct Rule {
+    pub k: u32,
+    pub m: u32,
+    pub zones: u32,
+}
+
+// The first `len` rules count; the slots after them are never looked at.
+pub struct RuleList {
+    pub rules: [Rule; RuleList::MAX_RULES as usize],
+    pub len: u32,
+}
+
+// Why an operation turned its input down: document 01's number, and the index of the rule for 3 and 4, else 0.
+pub struct Refusal {
+    pub number: u32,
+    pub place: u32,
+}
+
+impl Refusal {
+    // The step is outside its bounds.
+    pub const SIGMA: u32 = 1;
+
+    // No rules, or too many.
+    pub const RULE_COUNT: u32 = 2;
+
+    // A rule's k or m is outside its bounds.
+    pub const RULE_BOUNDS: u32 = 3;
+
+    // A rule's zone set is empty or has a zone that does not exist.
+    pub const ZONE_SET: u32 = 4;
+
+    // The given state cannot stand with these rules and this count.
+    pub const STATE: u32 = 5;
+
+    // There is no such zone.
+    pub const ZONE: u32 = 6;
+
+    // The count can go no further.
+    pub const COUNT: u32 = 7;
+}
+
+// What the check of a list, or of one rule, answers.
+pub enum Checked {
+    Accepted,
+    Refused(Refusal),
+}
+
+impl Rule {
+    pub fn new(k: u32, m: u32, zones: u32) -> Rule
+        ensures { λ r. ⌜ r ≡ ruleOf k m zones ⌝ }
+    {
+        Rule { k, m, zones }
+    }
+
+    // One rule, which stands at the index `at`: 3, then 4.
+    fn check(self, at: u32) -> Checked
+        ensures { λ r. ⌜ r ≡ checkRule at self ⌝ }
+    {
+        if self.m < RuleList::MIN_WINDOW {
+            return Checked::Refused(Refusal {
+                number: Refusal::RULE_BOUNDS,
+                place: at,
+            });
+        }
+        if self.m > RuleList::MAX_WINDOW {
+            return Checked::Refused(Refusal {
+                number: Refusal::RULE_BOUNDS,
+                place: at,
+            });
+        }
+        if self.k < RuleList::MIN_HITS {
+            return Checked::Refused(Refusal {
+                number: Refusal::RULE_BOUNDS,
+                place: at,
+            });
+        }
+        if self.k > self.m {
+            return Checked::Refused(Refusal {
+                number: Refusal::RULE_BOUNDS,
+                place: at,
+            });
+        }
+        if self.zones < RuleList::MIN_ZONE_SET {
+            return Checked::Refused(Refusal {
+                number: Refusal::ZONE_SET,
+                place: at,
+            });
+        }
+        if self.zones > RuleList::MAX_ZONE_SET {
+            return Checked::Refused(Refusal {
+                number: Refusal::ZONE_SET,
+                place: at,
+            });
+        }
+        Checked::Accepted
+    }
+}
+
+impl RuleList {
+    pub const MIN_RULES: u32 = 1;
+
+    pub const MAX_RULES: u32 = 8;
+
+    // The bounds of m.
+    pub const MIN_WINDOW: u32 = 1;
+
+    pub const MAX_WINDOW: u32 = 9;
+
+    // The least k; the largest is the rule's own m.
+    pub const MIN_HITS: u32 = 1;
+
+    // The bounds of a zone set: one zone at least, all zones at most.
+    pub const MIN_ZONE_SET: u32 = 1;
+
+    pub const MAX_ZONE_SET: u32 = (1 << ZONES) - 1;
+
+    pub fn western_electric() -> RuleList
+        ensures { λ r. ⌜ r ≡ westernElectric ⌝ }
+    {
+        RuleList {
+            rules: [
+                Rule::new(1, 1, 1),
+                Rule::new(2, 3, 64),
+                Rule::new(2, 3, 2),
+                Rule::new(4, 5, 96),
+                Rule::new(4, 5, 6),
+                Rule::new(8, 8, 112),
+                Rule::new(8, 8, 14),
+                Rule::new(0, 0, 0),
+            ],
+            len: 7,
+        }
+    }
+
+    pub fn duncan() -> RuleList
+        ensures { λ r. ⌜ r ≡ duncanList ⌝ }
+    {
+        RuleList {
+            rules: [
+                Rule::new(1, 1, 1),
+                Rule::new(2, 2, 64),
+                Rule::new(2, 2, 2),
+                Rule::new(5, 5, 96),
+                Rule::new(5, 5, 6),
+                Rule::new(0, 0, 0),
+                Rule::new(0, 0, 0),
+                Rule::new(0, 0, 0),
+            ],
+            len: 5,
+        }
+    }
+
+    // 2 for none or too many; then rule by rule 3, then 4, with the rule's index as the place.
+    pub fn check(self) -> Checked
+        ensures { λ r. ⌜ r ≡ checkOf self ⌝ }
+    {
+        let len = self.len;
+        if len < RuleList::MIN_RULES {
+            return Checked::Refused(Refusal {
+                number: Refusal::RULE_COUNT,
+                place: 0,
+            });
+        }
+        if len > RuleList::MAX_RULES {
+            return Checked::Refused(Refusal {
+                number: Refusal::RULE_COUNT,
+                place: 0,
+            });
+        }
+        let rules = self.rules;
+        let mut i: u32 = 0;
+        while i < len {
+            let rule = rules[i as usize];
+            let found = rule.check(i);
+            if let Checked::Refused(_) = found {
+                return found;
+            }
+            i += 1;
+        }
+        Checked::Accepted
+    }
+}

@@ -1,0 +1,25 @@
+-- When two states, of one chart or of two, have the same future. Definitions.
+use mathlib.Core.Path.{_≡_}
+use Prim.Native.Nat.{ℕ, _<_}
+use mathlib.Core.List.{List}
+use Rattle.runlength.specs.Sequence.{Zoned}
+use Rattle.runlength.specs.Automaton.{Automaton, Move, quiet, signal, signals, runLength}
+
+-- both moves signal, or both go on to states that R relates
+unfoldable pub Alike : {A B : Type 0} → (A → B → Type 0) → Move A → Move B → Type 0
+Alike R (quiet s) (quiet t) = R s t
+Alike R (quiet s) signal = ⊥
+Alike R signal (quiet t) = ⊥
+Alike R signal signal = Unit {0}
+
+module _ {A B : Type 0} (a : Automaton A) (b : Automaton B) where
+  -- every continuation first signals at the same point from both states: it signals from both or from neither, and the run lengths agree
+  pub record EqualFuture (s : A) (t : B) : Type 0 where
+    pub same-zones : a .zones ≡ b .zones
+    pub same-signals : (q : List ℕ) → Zoned (a .zones) q → signals a s q ≡ signals b t q
+    pub same-runLength : (q : List ℕ) → Zoned (a .zones) q → runLength a s q ≡ runLength b t q
+
+  -- a relation that every zone keeps: from related states both signal, or both go on to related states
+  pub record Simulation (R : A → B → Type 0) : Type 0 where
+    pub same-zones : a .zones ≡ b .zones
+    pub kept : (s : A) (t : B) → R s t → (z : ℕ) → z < a .zones → Alike R (a .move s z) (b .move t z)

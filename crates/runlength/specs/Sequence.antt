@@ -1,0 +1,8 @@
+-- Sequences of zones. Definitions.
+use Prim.Native.Nat.{ℕ, _<_}
+use mathlib.Core.List.{List, [], _∷_}
+
+-- each zone of the sequence is one of the zones, the numbers below `zones`
+unfoldable pub Zoned : ℕ → List ℕ → Type 0
+Zoned zones [] = Unit {0}
+Zoned zones (z ∷ q) = (z < zones) × Zoned zones q

@@ -1,0 +1,1 @@
+// Run lengths of a chart: definitions and laws only, in specs/. Nothing here runs.

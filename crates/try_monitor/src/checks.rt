@@ -1,0 +1,85 @@
+// The ready lists and the check of a list.
+use crate::show;
+use rules::Rule;
+use rules::RuleList;
+
+// Two rules in the first slots, and a third that only lists of three or more look at.
+pub fn list_of(first: Rule, second: Rule, len: u32) -> RuleList {
+    let none = Rule::new(0, 0, 0);
+    RuleList {
+        rules: [first, second, none, none, none, none, none, none],
+        len,
+    }
+}
+
+fn list(name: &[u8], l: RuleList) {
+    show::text(name);
+    show::number(b" len ", l.len as u64);
+    let rules = l.rules;
+    show::rule(rules[0]);
+    show::rule(rules[1]);
+    show::rule(rules[2]);
+    show::rule(rules[3]);
+    show::rule(rules[4]);
+    show::rule(rules[5]);
+    show::rule(rules[6]);
+    show::rule(rules[7]);
+    show::checked(l.check());
+}
+
+pub fn ready_lists() {
+    list(b"Western Electric", RuleList::western_electric());
+    list(b"Duncan", RuleList::duncan());
+}
+
+fn one(name: &[u8], k: u32, m: u32, zones: u32) {
+    show::text(name);
+    show::checked(list_of(Rule::new(k, m, zones), Rule::new(0, 0, 0), 1).check());
+}
+
+fn length(name: &[u8], len: u32) {
+    let r = Rule::new(9, 9, 127);
+    let l = RuleList {
+        rules: [r, r, r, r, r, r, r, r],
+        len,
+    };
+    show::text(name);
+    show::checked(l.check());
+}
+
+fn two(name: &[u8], first: Rule, second: Rule) {
+    show::text(name);
+    show::checked(list_of(first, second, 2).check());
+}
+
+pub fn refusals() {
+    length(b"no rules", 0);
+    length(b"1 rule", 1);
+    length(b"8 rules", 8);
+    length(b"9 rules", 9);
+    length(b"4294967295 rules", 4294967295);
+    one(b"0,1,1", 0, 1, 1);
+    one(b"1,1,1", 1, 1, 1);
+    one(b"2,1,1", 2, 1, 1);
+    one(b"1,0,1", 1, 0, 1);
+    one(b"9,9,1", 9, 9, 1);
+    one(b"10,9,1", 10, 9, 1);
+    one(b"1,10,1", 1, 10, 1);
+    one(b"10,10,1", 10, 10, 1);
+    one(b"4294967295,4294967295,1", 4294967295, 4294967295, 1);
+    one(b"1,1,0", 1, 1, 0);
+    one(b"1,1,127", 1, 1, 127);
+    one(b"1,1,128", 1, 1, 128);
+    one(b"1,1,4294967295", 1, 1, 4294967295);
+    one(b"0,0,0", 0, 0, 0);
+    let good = Rule::new(2, 3, 2);
+    two(b"rule 1 out of bounds", good, Rule::new(3, 2, 2));
+    two(b"rule 1 with no zone", good, Rule::new(2, 3, 0));
+    two(
+        b"rule 0 with no zone, rule 1 out of bounds",
+        Rule::new(2, 3, 0),
+        Rule::new(3, 2, 2),
+    );
+    show::text(b"a bad slot beyond the length");
+    show::checked(list_of(good, Rule::new(0, 0, 0), 1).check());
+}

@@ -1,0 +1,79 @@
+// Printing words, numbers and answers.
+use libc::STDOUT_FILENO;
+use monitor::Monitor;
+use monitor::Step;
+use monitor::zone::Zoned;
+use rules::Checked;
+use rules::Refusal;
+use rules::Rule;
+
+pub fn text(words: &[u8]) {
+    io::write_all(STDOUT_FILENO, words);
+}
+
+pub fn number(before: &[u8], n: u64) {
+    text(before);
+    io::print_decimal(STDOUT_FILENO, n);
+}
+
+pub fn refusal(r: Refusal) {
+    number(b" refused ", r.number as u64);
+    number(b" place ", r.place as u64);
+    text(b"\n");
+}
+
+pub fn zoned(answer: Zoned) {
+    match answer {
+        Zoned::Zone(z) => {
+            number(b" zone ", z as u64);
+            text(b"\n");
+        }
+        Zoned::Refused(r) => {
+            refusal(r);
+        }
+    }
+}
+
+pub fn checked(answer: Checked) {
+    match answer {
+        Checked::Accepted => {
+            text(b" accepted\n");
+        }
+        Checked::Refused(r) => {
+            refusal(r);
+        }
+    }
+}
+
+pub fn rule(r: Rule) {
+    number(b" ", r.k as u64);
+    number(b",", r.m as u64);
+    number(b",", r.zones as u64);
+}
+
+fn monitor_at(m: Monitor) {
+    number(b" then state ", m.state);
+    number(b" count ", m.count as u64);
+    text(b"\n");
+}
+
+// Prints the answer, and gives the monitor for the next point: the one given where the call was refused.
+pub fn step(given: Monitor, answer: Step) -> Monitor {
+    match answer {
+        Step::Refused(r) => {
+            refusal(r);
+            given
+        }
+        Step::Quiet { count, next } => {
+            number(b" quiet ", count as u64);
+            monitor_at(next);
+            next
+        }
+        Step::Signal { count, mask, next } => {
+            number(b" signal ", count as u64);
+            number(b" mask ", mask as u64);
+            monitor_at(next);
+            next
+        }
+    }
+}

@@ -1,0 +1,22 @@
+#!/usr/bin/env bash
+# Proves every crate from nothing, tries every must-fail edit, runs every program. The last line is the prover's own count; it is printed
+# only where everything passed.
+set -euo pipefail
+cd "$(dirname "$0")"
+
+log=$(mktemp)
+trap 'rm -f "$log"' EXIT
+
+rt fmt --check
+if ! rt ci >"$log" 2>&1; then
+  cat "$log"
+  exit 1
+fi
+verdict=$(tail -n 1 "$log")
+grep -E '^rt: ' "$log" || true
+if ! [[ $verdict =~ ^[0-9]+\ passed,\ 0\ failed$ ]]; then
+  echo "no verdict: $verdict"
+  exit 1
+fi
+
+echo "$verdict"
