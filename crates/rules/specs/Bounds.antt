@@ -29,3 +29,7 @@ minZoneSet = 1
 
 abbrev pub maxZoneSet : ℕ
 maxZoneSet = 2 ^ zoneCount - 1
+
+-- the most states (document 01's standings) of a rule list that a table is made for
+abbrev pub maxStates : ℕ
+maxStates = 1024

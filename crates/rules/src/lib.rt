@@ -123,6 +123,9 @@ impl RuleList {
 
     pub const MAX_ZONE_SET: u32 = (1 << ZONES) - 1;
 
+    // The most states of a list that a table is made for.
+    pub const MAX_STATES: usize = 1024;
+
     pub fn western_electric() -> RuleList
         ensures { λ r. ⌜ r ≡ westernElectric ⌝ }
     {

@@ -1,8 +1,8 @@
 // Tries the rule lists, the zones and the monitor on document 01's examples, on extremes, and on every refusal with its nearest
 // accepted neighbour. What it prints is compared with the file `stdout`.
 
+mod answers;
 mod checks;
-mod show;
 mod steps;
 mod zones;
 

@@ -1,19 +1,22 @@
 // The zone of a reading.
-use crate::show;
+use crate::answers;
 use monitor::zone::zone_of;
 
 fn reading(name: &[u8], r: i32, c: i32, sigma: u32) {
     show::text(name);
-    show::zoned(zone_of(r, c, sigma));
+    answers::zoned(zone_of(r, c, sigma));
 }
 
-pub fn examples() {
+fn above() {
     reading(b"131", 131, 100, 10);
     reading(b"130", 130, 100, 10);
     reading(b"120", 120, 100, 10);
     reading(b"111", 111, 100, 10);
     reading(b"110", 110, 100, 10);
     reading(b"100", 100, 100, 10);
+}
+
+fn below() {
     reading(b"99", 99, 100, 10);
     reading(b"90", 90, 100, 10);
     reading(b"89", 89, 100, 10);
@@ -22,7 +25,12 @@ pub fn examples() {
     reading(b"69", 69, 100, 10);
 }
 
-pub fn extremes() {
+pub fn examples() {
+    above();
+    below();
+}
+
+fn widest() {
     let low: i32 = -2147483648;
     let high: i32 = 2147483647;
     reading(b"highest on lowest, sigma 1", high, low, 1);
@@ -31,6 +39,11 @@ pub fn extremes() {
     reading(b"lowest on highest, sigma 65535", low, high, 65535);
     reading(b"lowest on lowest, sigma 1", low, low, 1);
     reading(b"highest on highest, sigma 65535", high, high, 65535);
+}
+
+fn limits() {
+    let low: i32 = -2147483648;
+    let high: i32 = 2147483647;
     reading(b"196605 on 0, sigma 65535", 196605, 0, 65535);
     reading(b"196606 on 0, sigma 65535", 196606, 0, 65535);
     reading(b"-196605 on 0, sigma 65535", -196605, 0, 65535);
@@ -39,6 +52,11 @@ pub fn extremes() {
     reading(b"4 above the lowest, sigma 1", -2147483644, low, 1);
     reading(b"3 below the highest, sigma 1", 2147483644, high, 1);
     reading(b"4 below the highest, sigma 1", 2147483643, high, 1);
+}
+
+pub fn extremes() {
+    widest();
+    limits();
 }
 
 pub fn refusals() {

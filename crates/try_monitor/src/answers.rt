@@ -1,26 +1,12 @@
-// Printing words, numbers and answers.
-use libc::STDOUT_FILENO;
+// Printing answers.
 use monitor::Monitor;
 use monitor::Step;
 use monitor::zone::Zoned;
 use rules::Checked;
-use rules::Refusal;
 use rules::Rule;
-
-pub fn text(words: &[u8]) {
-    io::write_all(STDOUT_FILENO, words);
-}
-
-pub fn number(before: &[u8], n: u64) {
-    text(before);
-    io::print_decimal(STDOUT_FILENO, n);
-}
-
-pub fn refusal(r: Refusal) {
-    number(b" refused ", r.number as u64);
-    number(b" place ", r.place as u64);
-    text(b"\n");
-}
+use show::number;
+use show::refusal;
+use show::text;
 
 pub fn zoned(answer: Zoned) {
     match answer {

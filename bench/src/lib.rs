@@ -1,0 +1,48 @@
+//! What the tests and benchmarks share: the proved library behind safe functions, a second implementation written from document 01, and
+//! a source of inputs.
+pub mod chart;
+pub mod inputs;
+pub mod proved;
+pub mod table;
+
+/// A refusal's number and place.
+#[derive(Clone, Copy, Debug, PartialEq, Eq)]
+pub struct Refusal {
+    pub number: u32,
+    pub place: u32,
+}
+
+pub fn refuse<T>(number: u32, place: u32) -> Result<T, Refusal> {
+    Err(Refusal { number, place })
+}
+
+/// T(k,m,Z), the set written as the sum of 2^zone.
+#[derive(Clone, Copy, Debug, PartialEq, Eq)]
+pub struct Rule {
+    pub k: u32,
+    pub m: u32,
+    pub z: u32,
+}
+
+pub const ZONES: usize = 7;
+
+pub fn rules(list: &[(u32, u32, u32)]) -> Vec<Rule> {
+    list.iter().map(|&(k, m, z)| Rule { k, m, z }).collect()
+}
+
+pub fn western_electric() -> Vec<Rule> {
+    rules(&[(1, 1, 1), (2, 3, 64), (2, 3, 2), (4, 5, 96), (4, 5, 6), (8, 8, 112), (8, 8, 14)])
+}
+
+pub fn duncan() -> Vec<Rule> {
+    rules(&[(1, 1, 1), (2, 2, 64), (2, 2, 2), (5, 5, 96), (5, 5, 6)])
+}
+
+/// 3,9 and 3,8 over the sets {1,2} and {2,3}: 1,008 standings.
+pub fn large() -> Vec<Rule> {
+    rules(&[(3, 9, 6), (3, 8, 12)])
+}
+
+/// A normal reading on a chart with the right centre and sigma: the normal area of each zone in units of 2^-30, to the nearest, and S what
+/// is missing from 2^30.
+pub const IN_CONTROL: [u32; ZONES] = [2_898_884, 22_978_326, 145_927_014, 366_516_130, 366_516_130, 145_927_014, 22_978_326];

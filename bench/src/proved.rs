@@ -1,0 +1,67 @@
+//! The proved library: the declarations of its exported functions, and a safe function over each.
+use crate::table::Figures;
+use crate::{Refusal, Rule, ZONES};
+
+extern "C" {
+    fn catrovindy_table(
+        rules: *const u32,
+        rule_count: u32,
+        weights: *const u32,
+        horizon: u32,
+        pmf: *mut u64,
+        pmf_len: usize,
+        survival: *mut u64,
+        survival_len: usize,
+        figures: *mut u64,
+    ) -> u64;
+}
+
+/// Eight slots of k, m and Z; what does not fit is cut off, and the count still says how many rules there are.
+fn slots(rules: &[Rule]) -> ([u32; 24], u32) {
+    let mut slots = [0u32; 24];
+    for (i, r) in rules.iter().take(8).enumerate() {
+        slots[3 * i..3 * i + 3].copy_from_slice(&[r.k, r.m, r.z]);
+    }
+    (slots, rules.len() as u32)
+}
+
+/// An answer's number in the low 32 bits and its place above; 0 is accepted.
+fn refusal(code: u64) -> Option<Refusal> {
+    (code != 0).then_some(Refusal { number: code as u32, place: (code >> 32) as u32 })
+}
+
+pub fn table(
+    rules: &[Rule],
+    weights: &[u32; ZONES],
+    horizon: u32,
+    pmf: &mut [u64],
+    survival: &mut [u64],
+) -> Result<Figures, Refusal> {
+    let (slots, count) = slots(rules);
+    let kept = [7u64, 8, 9, 10];
+    let mut figures = kept;
+    // The arrays have the sizes that the header gives, and the two lists come with their lengths.
+    let code = unsafe {
+        catrovindy_table(
+            slots.as_ptr(),
+            count,
+            weights.as_ptr(),
+            horizon,
+            pmf.as_mut_ptr(),
+            pmf.len(),
+            survival.as_mut_ptr(),
+            survival.len(),
+            figures.as_mut_ptr(),
+        )
+    };
+    match refusal(code) {
+        Some(r) => {
+            assert_eq!(figures, kept, "a refusal altered the figures");
+            Err(r)
+        }
+        None => {
+            let [standings, left, mean_whole, mean_fraction] = figures;
+            Ok(Figures { standings, left, mean_whole, mean_fraction })
+        }
+    }
+}

@@ -1,0 +1,14 @@
+-- The definitions and laws of the rows.
+pub mod At
+pub mod Limits
+pub mod MoreSumLaws
+pub mod Words
+pub mod WordsLaws
+pub mod Edges
+pub mod EdgesLaws
+pub mod GroupLaws
+pub mod Flow
+pub mod FlowLaws
+pub mod Rows
+pub mod Running
+pub mod RunningLaws

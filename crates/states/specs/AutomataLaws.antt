@@ -1,0 +1,52 @@
+-- The plain chart, the chart by its state and the chain of the explored states first signal on the same sequences.
+use Prim.Native.Nat.{ℕ, _≤_}
+use mathlib.Core.Path.{_≡_, refl, sym}
+use mathlib.Core.Bool.{Bool, true, false, cond}
+use mathlib.Core.List.{List, [], _∷_}
+use lib.Dec.{eqb}
+use lib.ListN.{length}
+use Rattle.rules.specs.declared.Rule.{Rule}
+use Rattle.rules.specs.Bounds.{zoneCount, maxStates}
+use Rattle.rules.specs.InBounds.{AllInBounds}
+use Rattle.monitor.specs.declared.Move.the-variants.{Quiet, Signal}
+use Rattle.monitor.specs.State.{emptyState}
+use Rattle.monitor.specs.ReferenceChart.{rowMask}
+use Rattle.monitor.specs.RowLaws.{stateOfRow, move-of-row, empty-row-state}
+use Rattle.runlength.specs.Automaton.{quiet, signal}
+use Rattle.runlength.specs.Listed.{listedAutomaton}
+use Rattle.runlength.specs.Future.{Alike, EqualFuture, Simulation}
+use Rattle.runlength.specs.FutureLaws.{simulation-future, future-sym, future-trans}
+use Rattle.states.specs.States.{states, moves}
+use Rattle.states.specs.StatesLaws.{explored-future}
+use Rattle.states.specs.Automata.{automatonMove, stateAutomaton, referenceAutomaton}
+
+-- the state of a row
+pub record OfRow (rs : List Rule) (row : List ℕ) (s : ℕ) : Type 0 where
+  pub is : s ≡ stateOfRow rs row
+
+module _ (rs : List Rule) (bounds : AllInBounds rs) where
+  -- by one rule for both: a signal where the mask is not 0
+  same-mask : (row : List ℕ) (b : Bool) → Alike (OfRow rs) (cond b (quiet row) signal) (automatonMove (cond b (Quiet (stateOfRow rs row)) Signal))
+  unfolding Alike
+  same-mask row true = record { is = refl }
+  same-mask row false = tt
+
+  row-kept : (row : List ℕ) (s : ℕ) → OfRow rs row s → (z : ℕ) → Alike (OfRow rs) (referenceAutomaton rs .move row z) (stateAutomaton rs .move s z)
+  row-kept row s p z = rw (p .is, move-of-row rs bounds row z) (same-mask (z ∷ row) (eqb (rowMask rs (z ∷ row)) 0))
+
+  -- the state moves as the row that it is the state of
+  pub row-simulation : Simulation (referenceAutomaton rs) (stateAutomaton rs) (OfRow rs)
+  row-simulation = record { same-zones = refl; kept = λ row s p z h. row-kept row s p z }
+
+  -- the plain chart and the chart by its state first signal on the same sequences
+  pub reference-future : EqualFuture (referenceAutomaton rs) (stateAutomaton rs) [] emptyState
+  reference-future =
+      simulation-future (referenceAutomaton rs) (stateAutomaton rs) (OfRow rs) row-simulation (record { is = sym (empty-row-state rs) })
+
+  -- so do the plain chart and the chain of the explored states
+  pub explored-reference : length (states (stateAutomaton rs)) ≤ maxStates
+      → EqualFuture (referenceAutomaton rs) (listedAutomaton zoneCount (length (states (stateAutomaton rs))) (moves (stateAutomaton rs))) [] 0
+  explored-reference few =
+      let chain = listedAutomaton zoneCount (length (states (stateAutomaton rs))) (moves (stateAutomaton rs)) in
+      future-trans (referenceAutomaton rs) (stateAutomaton rs) chain reference-future
+      (future-sym chain (stateAutomaton rs) (explored-future (stateAutomaton rs) few))

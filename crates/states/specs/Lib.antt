@@ -1,0 +1,11 @@
+pub mod States
+pub mod Places
+pub mod PlaceLaws
+pub mod WorklistLaws
+pub mod StatesLaws
+pub mod CountLaws
+pub mod Automata
+pub mod AutomataLaws
+pub mod Explore
+pub mod ExploreLaws
+pub mod VisitLaws

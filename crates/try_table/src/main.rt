@@ -1,0 +1,19 @@
+// Tries the run-length table on document 01's listing, on the number of states of every rule alone, on the largest lists, and on every
+// refusal with its nearest accepted neighbour. What it prints is compared with the file `stdout`.
+mod answers;
+mod counts;
+mod listing;
+mod refusals;
+
+fn main() {
+    show::text(b"the listing of document 01\n");
+    listing::listing();
+    show::text(b"rule 2,3,2 on the listing's weights\n");
+    listing::two_of_three();
+    show::text(b"states of k,m on zones 1 and 2, and on all zones\n");
+    counts::every_rule();
+    show::text(b"the largest lists\n");
+    counts::largest();
+    show::text(b"refusals\n");
+    refusals::refusals();
+}
