@@ -1,6 +1,6 @@
 #!/usr/bin/env bash
-# Proves every crate from nothing, tries every must-fail edit, runs every program. The last line is the prover's own count; it is printed
-# only where everything passed.
+# Proves every crate from nothing, tries every must-fail edit, runs every program; then compares the proved library with a second
+# implementation. The last line is the prover's own count; it is printed only where everything passed.
 set -euo pipefail
 cd "$(dirname "$0")"
 
@@ -12,11 +12,13 @@ if ! rt ci >"$log" 2>&1; then
   cat "$log"
   exit 1
 fi
-verdict=$(tail -n 1 "$log")
 grep -E '^rt: ' "$log" || true
+verdict=$(tail -n 1 "$log")
 if ! [[ $verdict =~ ^[0-9]+\ passed,\ 0\ failed$ ]]; then
   echo "no verdict: $verdict"
   exit 1
 fi
+
+bash bench/differential.sh
 
 echo "$verdict"

@@ -46,3 +46,6 @@ pub fn large() -> Vec<Rule> {
 /// A normal reading on a chart with the right centre and sigma: the normal area of each zone in units of 2^-30, to the nearest, and S what
 /// is missing from 2^30.
 pub const IN_CONTROL: [u32; ZONES] = [2_898_884, 22_978_326, 145_927_014, 366_516_130, 366_516_130, 145_927_014, 22_978_326];
+
+/// Points that are rarely outside the inner zones: a chart that stays quiet for tens of thousands of points.
+pub const RARE: [u32; ZONES] = [0, 5_000_000, 5_000_000, 5_000_000, (1 << 30) - 15_000_000, 0, 0];

@@ -5,11 +5,14 @@ use rules::RuleList;
 
 // Two rules in the first slots, and a third that only lists of three or more look at.
 pub fn list_of(first: Rule, second: Rule, len: u32) -> RuleList {
-    let none = Rule::new(0, 0, 0);
-    RuleList {
-        rules: [first, second, none, none, none, none, none, none],
-        len,
-    }
+    let mut rules = [Rule {
+        k: 0,
+        m: 0,
+        zones: 0,
+    }; RuleList::MAX_RULES as usize];
+    rules[0] = first;
+    rules[1] = second;
+    RuleList { rules, len }
 }
 
 fn list(name: &[u8], l: RuleList) {
@@ -38,9 +41,12 @@ fn one(name: &[u8], k: u32, m: u32, zones: u32) {
 }
 
 fn length(name: &[u8], len: u32) {
-    let r = Rule::new(9, 9, 127);
     let l = RuleList {
-        rules: [r, r, r, r, r, r, r, r],
+        rules: [Rule {
+            k: 9,
+            m: 9,
+            zones: 127,
+        }; RuleList::MAX_RULES as usize],
         len,
     };
     show::text(name);

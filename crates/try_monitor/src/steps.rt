@@ -31,12 +31,8 @@ pub fn example() {
     reading(b"131", m, l, 131);
 }
 
-fn one(k: u32, m: u32, zones: u32) -> RuleList {
-    list_of(Rule::new(k, m, zones), Rule::new(0, 0, 0), 1)
-}
-
 pub fn early_signal() {
-    let l = one(2, 3, 2);
+    let l = list_of(Rule::new(2, 3, 2), Rule::new(0, 0, 0), 1);
     let m = point(b"A1", Monitor::fresh(), l, Zoned::A1);
     point(b"A1", m, l, Zoned::A1);
 }
@@ -51,51 +47,62 @@ pub fn reset_all() {
     point(b"A1", m, l, Zoned::A1);
 }
 
-fn given(name: &[u8], l: RuleList, state: u64, count: u32, zone: u32) {
+// A step with one rule, from the state and count given.
+fn alone(name: &[u8], rule: Rule, state: u64, count: u32, zone: u32) {
+    let l = list_of(rule, Rule::new(0, 0, 0), 1);
     point(name, Monitor { state, count }, l, zone);
+}
+
+// A step with two rules.
+fn pair(name: &[u8], first: Rule, second: Rule, state: u64, zone: u32) {
+    point(
+        name,
+        Monitor { state, count: 9 },
+        list_of(first, second, 2),
+        zone,
+    );
 }
 
 const LAST: u32 = 4294967295;
 
 fn of_zones() {
-    let l = one(2, 3, 2);
-    given(b"zone 6", l, 0, 0, 6);
-    given(b"zone 7", l, 0, 0, 7);
-    given(b"zone 4294967295", l, 0, 0, LAST);
+    let r = Rule::new(2, 3, 2);
+    alone(b"zone 6", r, 0, 0, 6);
+    alone(b"zone 7", r, 0, 0, 7);
+    alone(b"zone 4294967295", r, 0, 0, LAST);
 }
 
 fn of_hits() {
-    let l = one(2, 3, 2);
-    given(b"1 hit of 2", l, 1, 9, 3);
-    given(b"2 hits of 2", l, 3, 9, 3);
-    given(b"a hit of age 2 in 3", l, 2, 9, 3);
-    given(b"a hit of age 3 in 3", l, 4, 9, 3);
-    given(b"3,3: hits of age 1 and 2", one(3, 3, 2), 3, 9, 3);
-    given(b"3,3: a hit of age 2 alone", one(3, 3, 2), 2, 9, 3);
+    let r = Rule::new(2, 3, 2);
+    alone(b"1 hit of 2", r, 1, 9, 3);
+    alone(b"2 hits of 2", r, 3, 9, 3);
+    alone(b"a hit of age 2 in 3", r, 2, 9, 3);
+    alone(b"a hit of age 3 in 3", r, 4, 9, 3);
+    alone(b"3,3: hits of age 1 and 2", Rule::new(3, 3, 2), 3, 9, 3);
+    alone(b"3,3: a hit of age 2 alone", Rule::new(3, 3, 2), 2, 9, 3);
 }
 
 fn of_ages() {
-    let l = one(2, 3, 2);
-    given(b"a hit of age 2, 2 points", l, 2, 2, 3);
-    given(b"a hit of age 2, 1 point", l, 2, 1, 3);
-    given(b"a hit, no points", l, 1, 0, 3);
+    let r = Rule::new(2, 3, 2);
+    alone(b"a hit of age 2, 2 points", r, 2, 2, 3);
+    alone(b"a hit of age 2, 1 point", r, 2, 1, 3);
+    alone(b"a hit, no points", r, 1, 0, 3);
 }
 
 fn of_windows() {
-    let l = one(2, 3, 2);
-    let both = list_of(Rule::new(2, 3, 2), Rule::new(2, 3, 4), 2);
-    given(b"a hit in window 1, 1 rule", l, 256, 9, 3);
-    given(b"a hit in window 1, 2 rules", both, 256, 9, 3);
-    given(b"a hit in window 7", l, 72057594037927936, 9, 3);
+    let r = Rule::new(2, 3, 2);
+    alone(b"a hit in window 1, 1 rule", r, 256, 9, 3);
+    pair(b"a hit in window 1, 2 rules", r, Rule::new(2, 3, 4), 256, 3);
+    alone(b"a hit in window 7", r, 72057594037927936, 9, 3);
 }
 
 fn of_counts() {
-    let l = one(2, 3, 2);
-    given(b"count 4294967294", l, 0, 4294967294, 3);
-    given(b"count 4294967295", l, 0, LAST, 3);
-    given(
+    let r = Rule::new(2, 3, 2);
+    alone(b"count 4294967294", r, 0, 4294967294, 3);
+    alone(b"count 4294967295", r, 0, LAST, 3);
+    alone(
         b"count 4294967295 where it would signal",
-        one(1, 1, 127),
+        Rule::new(1, 1, 127),
         0,
         LAST,
         0,
@@ -103,11 +110,17 @@ fn of_counts() {
 }
 
 fn order() {
-    let l = one(2, 3, 2);
-    given(b"count 4294967295 with a bad state", l, 3, LAST, 3);
-    given(b"count 4294967295 with a bad zone", l, 0, LAST, 7);
-    given(b"a bad state with a bad zone", l, 3, 9, 7);
-    given(b"a bad list with all of them", one(0, 3, 2), 3, LAST, 7);
+    let r = Rule::new(2, 3, 2);
+    alone(b"count 4294967295 with a bad state", r, 3, LAST, 3);
+    alone(b"count 4294967295 with a bad zone", r, 0, LAST, 7);
+    alone(b"a bad state with a bad zone", r, 3, 9, 7);
+    alone(
+        b"a bad list with all of them",
+        Rule::new(0, 3, 2),
+        3,
+        LAST,
+        7,
+    );
 }
 
 pub fn refusals() {
@@ -121,8 +134,9 @@ pub fn refusals() {
 
 // With rules 2,2 on A1 and 2,2 on A2 both windows cannot have a hit of age 1; the state passes all the same.
 pub fn unmet_state() {
-    let l = list_of(Rule::new(2, 2, 2), Rule::new(2, 2, 64), 2);
-    given(b"C1", l, 257, 9, Zoned::C1);
-    given(b"A1", l, 257, 9, Zoned::A1);
-    given(b"A2", l, 257, 9, Zoned::A2);
+    let first = Rule::new(2, 2, 2);
+    let second = Rule::new(2, 2, 64);
+    pair(b"C1", first, second, 257, Zoned::C1);
+    pair(b"A1", first, second, 257, Zoned::A1);
+    pair(b"A2", first, second, 257, Zoned::A2);
 }

@@ -5,11 +5,14 @@ use table::TableAnswer;
 
 // The list of the first rules of two.
 pub fn list_of(first: Rule, second: Rule, len: u32) -> RuleList {
-    let none = Rule::new(0, 0, 0);
-    RuleList {
-        rules: [first, second, none, none, none, none, none, none],
-        len,
-    }
+    let mut rules = [Rule {
+        k: 0,
+        m: 0,
+        zones: 0,
+    }; RuleList::MAX_RULES as usize];
+    rules[0] = first;
+    rules[1] = second;
+    RuleList { rules, len }
 }
 
 pub fn one(rule: Rule) -> RuleList {

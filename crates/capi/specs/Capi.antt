@@ -1,0 +1,44 @@
+-- The exported functions in the terms of the operations that they wrap. Definitions.
+use Prim.Native.Nat.{ℕ, _+_, _*_, _^_}
+use mathlib.Core.Path.{_≡_}
+use mathlib.Core.List.{List, [], _∷_}
+use lib.ListN.{getD, set}
+use Rattle.rules.specs.declared.Rule.{Rule}
+use Rattle.rules.specs.declared.RuleList.{RuleList}
+use Rattle.rules.specs.declared.Refusal.{Refusal}
+use Rattle.rules.specs.Ready.{ruleOf}
+use Rattle.table.specs.declared.TableAnswer.{TableAnswer}
+use Rattle.table.specs.declared.TableAnswer.the-variants.{Accepted, Refused}
+use Rattle.table.specs.Table.{tableOf}
+
+-- slot i of a list of numbers: k, m and the zone set
+abbrev pub ruleAt : List ℕ → ℕ → Rule
+ruleAt slots i = ruleOf (getD slots (3 * i) 0) (getD slots (3 * i + 1) 0) (getD slots (3 * i + 2) 0)
+
+-- the rule list of eight slots
+abbrev pub listOf : List ℕ → ℕ → RuleList
+listOf slots count = record {
+  rules = ruleAt slots 0 ∷ ruleAt slots 1 ∷ ruleAt slots 2 ∷ ruleAt slots 3 ∷ ruleAt slots 4 ∷ ruleAt slots 5 ∷ ruleAt slots 6 ∷ ruleAt slots 7 ∷ [];
+  len = count;
+}
+
+-- a refusal as one number: its number in the low 32 bits, its place above them
+abbrev pub codeOf : Refusal → ℕ
+codeOf x = x .number + 4294967296 * x .place
+
+-- 0 for an accepted call
+abbrev pub tableCode : TableAnswer → ℕ
+tableCode (Accepted f) = 0
+tableCode (Refused x) = codeOf x
+
+-- what the figures' array of four places then holds: N, left at the horizon, and the cut mean; a refusal leaves it as it was
+abbrev pub figuresAfter : TableAnswer → List ℕ → List ℕ
+figuresAfter (Accepted f) figures = set (set (set (set figures 0 (f .states)) 1 (f .survival)) 2 (f .«mean_whole»)) 3 (f .«mean_fraction»)
+figuresAfter (Refused x) figures = figures
+
+-- a call of the table: the answer's number, and all that was lent, as they then are
+pub record TableCall (l : RuleList) (w : List ℕ) (h : ℕ) (p s f p′ s′ f′ : List ℕ) (r : ℕ) : Type 0 where
+  pub answer : r ≡ tableCode (tableOf l w h p s .answer)
+  pub pmf-list : p′ ≡ tableOf l w h p s .pmfList
+  pub survival-list : s′ ≡ tableOf l w h p s .survivalList
+  pub figures : f′ ≡ figuresAfter (tableOf l w h p s .answer) f

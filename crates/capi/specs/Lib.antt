@@ -1,0 +1,3 @@
+-- What the exported functions mean.
+pub mod Capi
+pub mod CapiLaws

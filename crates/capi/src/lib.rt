@@ -1,0 +1,75 @@
+// The exported functions, for callers in C and Rust: numbers, fixed-size arrays and slices.
+use rules::Refusal;
+use rules::Rule;
+use rules::RuleList;
+use rules::ZONES;
+use table::TableAnswer;
+ghost use mathlib.Core.Path.{_≡_};
+ghost use lib.ListN.{getD};
+ghost use Prim.Native.Nat.{_+_, _*_, _<_};
+ghost use Rattle.rules.specs.Bounds.{maxRules};
+ghost use Rattle.capi.specs.Capi.{ruleAt, listOf, codeOf, TableCall};
+
+// The numbers of a rule list: k, m and the zone set of each of its slots.
+const SLOT_NUMBERS: usize = 3 * (RuleList::MAX_RULES as usize);
+
+// A refusal as one number: its number in the low 32 bits, its place above them. An accepted call answers 0.
+fn code(r: Refusal) -> u64
+    ensures { λ n. ⌜ n ≡ codeOf r ⌝ }
+{
+    r.number as u64 + 4294967296 * (r.place as u64)
+}
+
+// The rule in a slot.
+fn rule_at(slots: [u32; SLOT_NUMBERS], i: usize) -> Rule
+    requires { ⌜ i < maxRules ⌝ }
+    ensures { λ r. ⌜ r ≡ ruleAt slots i ⌝ }
+{
+    Rule::new(slots[3 * i], slots[3 * i + 1], slots[3 * i + 2])
+}
+
+// The rule list of the slots.
+fn list_of(slots: [u32; SLOT_NUMBERS], count: u32) -> RuleList
+    ensures { λ r. ⌜ r ≡ listOf slots count ⌝ }
+{
+    RuleList {
+        rules: [
+            rule_at(slots, 0),
+            rule_at(slots, 1),
+            rule_at(slots, 2),
+            rule_at(slots, 3),
+            rule_at(slots, 4),
+            rule_at(slots, 5),
+            rule_at(slots, 6),
+            rule_at(slots, 7),
+        ],
+        len: count,
+    }
+}
+
+// The run-length table: `table::run_length_table`. Answers 0 and writes N, left at the horizon and the cut mean's whole part and fraction
+// to `figures`; or answers the refusal and alters nothing.
+#[no_mangle]
+pub extern "C" fn catrovindy_table(
+    slots: &[u32; SLOT_NUMBERS],
+    count: u32,
+    weights: &[u32; ZONES],
+    horizon: u32,
+    pmf: &mut [u64],
+    survival: &mut [u64],
+    figures: &mut [u64; 4],
+) -> u64
+    ensures { λ r. ⌜ TableCall (listOf (now (slots .entry)) count) (now (weights .entry)) horizon (now (pmf .entry)) (now (survival .entry)) (now (figures .entry)) (now (pmf .exit)) (now (survival .exit)) (now (figures .exit)) r ⌝ }
+{
+    let answer = table::run_length_table(list_of(*slots, count), *weights, horizon, pmf, survival);
+    match answer {
+        TableAnswer::Refused(r) => code(r),
+        TableAnswer::Accepted(f) => {
+            figures[0] = f.states as u64;
+            figures[1] = f.survival;
+            figures[2] = f.mean_whole;
+            figures[3] = f.mean_fraction;
+            0
+        }
+    }
+}
