@@ -1,5 +1,6 @@
 //! What the tests and benchmarks share: the proved library behind safe functions, a second implementation written from document 01, and
 //! a source of inputs.
+pub mod bracket;
 pub mod chart;
 pub mod inputs;
 pub mod proved;

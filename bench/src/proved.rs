@@ -1,4 +1,5 @@
 //! The proved library: the declarations of its exported functions, and a safe function over each.
+use crate::bracket::Bracket;
 use crate::table::Figures;
 use crate::{Refusal, Rule, ZONES};
 
@@ -14,6 +15,8 @@ extern "C" {
         survival_len: usize,
         figures: *mut u64,
     ) -> u64;
+
+    fn catrovindy_bracket(pmf: *const u64, pmf_len: usize, state_count: u32, percent: u32, answer: *mut u32) -> u64;
 }
 
 /// Eight slots of k, m and Z; what does not fit is cut off, and the count still says how many rules there are.
@@ -64,4 +67,26 @@ pub fn table(
             Ok(Figures { standings, left, mean_whole, mean_fraction })
         }
     }
+}
+
+pub fn bracket(chances: &[u64], n: u32, p: u32) -> Result<Bracket, Refusal> {
+    let kept = [9u32, 9, 9];
+    let mut answer = kept;
+    // The array has the size that the header gives, and the list comes with its length.
+    let code = unsafe { catrovindy_bracket(chances.as_ptr(), chances.len(), n, p, answer.as_mut_ptr()) };
+    if let Some(r) = refusal(code) {
+        assert_eq!(answer, kept, "a refusal altered the answer");
+        return Err(r);
+    }
+    let [kind, first, second] = answer;
+    Ok(match kind {
+        1 => {
+            assert_eq!(first, second);
+            Bracket::At(first)
+        }
+        2 => Bracket::Between(first, second),
+        3 => Bracket::Open(first),
+        4 => Bracket::Beyond(first),
+        other => panic!("no such answer: {other}"),
+    })
 }

@@ -10,6 +10,9 @@ use Rattle.rules.specs.Ready.{ruleOf}
 use Rattle.table.specs.declared.TableAnswer.{TableAnswer}
 use Rattle.table.specs.declared.TableAnswer.the-variants.{Accepted, Refused}
 use Rattle.table.specs.Table.{tableOf}
+use Rattle.bracket.specs.declared.BracketAnswer.{BracketAnswer}
+use Rattle.bracket.specs.declared.BracketAnswer.the-variants.{At, Between, Open, Beyond}
+use Rattle.bracket.specs.Bracket.{bracketOf}
 
 -- slot i of a list of numbers: k, m and the zone set
 abbrev pub ruleAt : List ℕ → ℕ → Rule
@@ -42,3 +45,28 @@ pub record TableCall (l : RuleList) (w : List ℕ) (h : ℕ) (p s f p′ s′ f�
   pub pmf-list : p′ ≡ tableOf l w h p s .pmfList
   pub survival-list : s′ ≡ tableOf l w h p s .survivalList
   pub figures : f′ ≡ figuresAfter (tableOf l w h p s .answer) f
+
+-- ---- the bracket
+
+-- three places of an array
+abbrev pub written : ℕ → ℕ → ℕ → List ℕ → List ℕ
+written kind first second answer = set (set (set answer 0 kind) 1 first) 2 second
+
+abbrev pub bracketCode : BracketAnswer → ℕ
+bracketCode (BracketAnswer.Refused x) = codeOf x
+bracketCode (At n) = 0
+bracketCode (Between low high) = 0
+bracketCode (Open low) = 0
+bracketCode (Beyond h) = 0
+
+-- what the answer's array of three places then holds: 1 for at, 2 for between, 3 for open, 4 for beyond, and the numbers; a refusal leaves it
+abbrev pub bracketAfter : BracketAnswer → List ℕ → List ℕ
+bracketAfter (BracketAnswer.Refused x) answer = answer
+bracketAfter (At n) answer = written 1 n n answer
+bracketAfter (Between low high) answer = written 2 low high answer
+bracketAfter (Open low) answer = written 3 low 0 answer
+bracketAfter (Beyond h) answer = written 4 h 0 answer
+
+pub record BracketCall (pmf : List ℕ) (states p : ℕ) (a a′ : List ℕ) (r : ℕ) : Type 0 where
+  pub code : r ≡ bracketCode (bracketOf pmf states p)
+  pub answer : a′ ≡ bracketAfter (bracketOf pmf states p) a

@@ -1,4 +1,4 @@
--- An exported call of the table, by the table's answer.
+-- The exported calls, by the answer of the operation that they wrap.
 use mathlib.Core.Path.{_≡_, sym, ap, _∙_}
 use mathlib.Core.List.{List}
 use Prim.Native.Nat.{ℕ}
@@ -9,7 +9,9 @@ use Rattle.table.specs.declared.TableAnswer.{TableAnswer}
 use Rattle.table.specs.declared.TableAnswer.the-variants.{Accepted, Refused}
 use Rattle.table.specs.declared.TableFigures.{TableFigures}
 use Rattle.table.specs.Table.{TableResult, tableResult, tableOf}
-use Rattle.capi.specs.Capi.{codeOf, tableCode, figuresAfter, TableCall}
+use Rattle.bracket.specs.declared.BracketAnswer.{BracketAnswer}
+use Rattle.bracket.specs.Bracket.{bracketOf}
+use Rattle.capi.specs.Capi.{codeOf, tableCode, figuresAfter, TableCall, bracketCode, bracketAfter, BracketCall}
 
 -- m is the list that the call made of the slots, and a the table's answer
 module _ (l m : RuleList) (w : List ℕ) (h : ℕ) (p s f p′ s′ : List ℕ) (a : TableAnswer) (made : m ≡ l) (table : tableResult a p′ s′ ≡ tableOf m w h p s) where
@@ -36,3 +38,10 @@ module _ (l m : RuleList) (w : List ℕ) (h : ℕ) (p s f p′ s′ : List ℕ) 
         survival-list = ap (λ (y : TableResult). y .survivalList) called;
         figures = sym (ap (λ (y : TableAnswer). figuresAfter y f) t);
       }
+
+-- b is the bracket's answer, which is x
+pub bracket-call : (pmf : List ℕ) (states p : ℕ) (a a′ : List ℕ) (r : ℕ) (b x : BracketAnswer) → b ≡ bracketOf pmf states p → b ≡ x
+    → r ≡ bracketCode x → a′ ≡ bracketAfter x a → BracketCall pmf states p a a′ r
+bracket-call pmf states p a a′ r b x e q code answer =
+    let t : bracketOf pmf states p ≡ x = sym e ∙ q in
+    record { code = code ∙ sym (ap bracketCode t); answer = answer ∙ sym (ap (λ (y : BracketAnswer). bracketAfter y a) t) }

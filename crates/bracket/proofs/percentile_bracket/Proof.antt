@@ -1,0 +1,141 @@
+-- `percentile_bracket` meets its contract: each refusal by the tests that lead to it, and the answer by the two searches.
+use mathlib.Core.Path.{_≡_, sym, ap₂, _∙_}
+use mathlib.Core.Bool.{Bool, not, false}
+use mathlib.Core.List.{List}
+use mathlib.Core.Option.{Option}
+use Prim.Native.Nat.{ℕ, _≤_}
+use native.Mathlib.Omega.{arith}
+use lib.Dec.{leb}
+use lib.ListN.{length}
+use borrow.Author.Tests.{leb-true, not-true, not-false}
+use borrow.Author.Needs.{needs}
+use Rattle.rules.specs.Bounds.{maxStates}
+use Rattle.bracket.specs.Limits.{minLength, maxLength, minStates, minPercent, maxPercent, whole}
+use Rattle.bracket.specs.Bracket.{cdfOf, bracketBy}
+use Rattle.bracket.specs.Accepted.{Accepted}
+use Rattle.bracket.specs.BracketLaws.{accepted-bracket}
+use Rattle.bracket.specs.RefusedLaws.{under-range, over-range, refused-length, refused-states, refused-percent, refused-total}
+use Rattle.bracket.proofs.percentile_bracket.Statement.{statement}
+use Rattle.bracket.proofs.percentile_bracket.Tie as tie
+
+refused-requires : tie.Need-refused-requires
+refused-requires c κs = search needs
+
+returns : tie.Need-returns
+returns c =
+    let a = c .before .before .before .args in
+    let pmf = a .pmf .now in
+    c .refused .ensures ∙ sym (refused-length pmf (a .state-count) (a .percent) (under-range minLength maxLength (length pmf) (omega arith)))
+
+refused-requires-2 : tie.Need-refused-requires-2
+refused-requires-2 c κs = search needs
+
+returns-2 : tie.Need-returns-2
+returns-2 c =
+    let a = c .before .before .before .before .args in
+    let pmf = a .pmf .now in
+    c .refused2 .ensures ∙ sym (refused-length pmf (a .state-count) (a .percent) (over-range minLength maxLength (length pmf) (omega arith) (omega arith)))
+
+refused-requires-3 : tie.Need-refused-requires-3
+refused-requires-3 c κs = search needs
+
+returns-3 : tie.Need-returns-3
+returns-3 c =
+    let a = c .before .before .before .before .before .args in
+    let pmf = a .pmf .now in
+    c .refused3 .ensures ∙ sym (refused-states pmf (a .state-count) (a .percent) (omega arith) (omega arith) (under-range minStates maxStates (a .state-count) (omega arith)))
+
+refused-requires-4 : tie.Need-refused-requires-4
+refused-requires-4 c κs = search needs
+
+returns-4 : tie.Need-returns-4
+returns-4 c =
+    let a = c .before .before .before .before .before .before .args in
+    let pmf = a .pmf .now in
+    c .refused4 .ensures ∙ sym (refused-states pmf (a .state-count) (a .percent) (omega arith) (omega arith) (over-range minStates maxStates (a .state-count) (omega arith) (omega arith)))
+
+refused-requires-5 : tie.Need-refused-requires-5
+refused-requires-5 c κs = search needs
+
+returns-5 : tie.Need-returns-5
+returns-5 c =
+    let a = c .before .before .before .before .before .before .before .args in
+    let pmf = a .pmf .now in
+    c .refused5 .ensures ∙ sym (refused-percent pmf (a .state-count) (a .percent) (omega arith) (omega arith) (omega arith) (omega arith) (under-range minPercent maxPercent (a .percent) (omega arith)))
+
+refused-requires-6 : tie.Need-refused-requires-6
+refused-requires-6 c κs = search needs
+
+returns-6 : tie.Need-returns-6
+returns-6 c =
+    let a = c .before .before .before .before .before .before .before .before .args in
+    let pmf = a .pmf .now in
+    c .refused6 .ensures ∙ sym (refused-percent pmf (a .state-count) (a .percent) (omega arith) (omega arith) (omega arith) (omega arith) (over-range minPercent maxPercent (a .percent) (omega arith) (omega arith)))
+
+sum-fits-requires : tie.Need-sum-fits-requires
+sum-fits-requires c κs = search needs
+
+refused-requires-7 : tie.Need-refused-requires-7
+refused-requires-7 c κs = search needs
+
+returns-7 : tie.Need-returns-7
+returns-7 c =
+    let a = c .before .before .before .before .before .before .before .before .before .before .args in
+    let pmf = a .pmf .now in
+    c .refused7 .ensures ∙ sym (refused-total pmf (a .state-count) (a .percent) (omega arith) (omega arith) (omega arith) (omega arith) (omega arith) (omega arith) (sym (c .before .before .sum-fits .ensures) ∙ not-true (c .before .before .sum-fits .result) (c .before .if7 .taken)))
+
+-- the sum was found to fit
+fits : (pmf : List ℕ) (r : Bool) → r ≡ leb (cdfOf pmf (length pmf)) whole → not r ≡ false → cdfOf pmf (length pmf) ≤ whole
+fits pmf r e h = leb-true (cdfOf pmf (length pmf)) whole (sym e ∙ not-false r h)
+
+lower-requires : tie.Need-lower-requires
+lower-requires c κs =
+    let summed = c .before in
+    let pmf = summed .before .before .before .before .before .before .before .before .args .pmf .now in
+    (record { short = omega arith; total = fits pmf (summed .sum-fits .result) (summed .sum-fits .ensures) (c .if7 .left) }, omega arith, omega arith)
+
+upper-requires : tie.Need-upper-requires
+upper-requires c κs =
+    let summed = c .before .before in
+    let pmf = summed .before .before .before .before .before .before .before .before .args .pmf .now in
+    (record { short = omega arith; total = fits pmf (summed .sum-fits .result) (summed .sum-fits .ensures) (c .before .if7 .left) }, omega arith)
+
+cast-placed : tie.Need-cast-placed
+cast-placed c = search needs
+
+placed-requires : tie.Need-placed-requires
+placed-requires c κs = search needs
+
+returns-8 : tie.Need-returns-8
+returns-8 c =
+    let summed = c .before .before .before .before in
+    let a = summed .before .before .before .before .before .before .before .before .args in
+    let pmf = a .pmf .now in
+    let accepted : Accepted pmf (a .state-count) (a .percent) =
+    record { not-empty = omega arith; short = omega arith; some-states = omega arith; few-states = omega arith; some-percent = omega arith; part-percent = omega arith; total = fits pmf (summed .sum-fits .result) (summed .sum-fits .ensures) (c .before .before .before .if7 .left) } in
+    c .placed .ensures ∙ ap₂ (λ (low high : Option ℕ). bracketBy low high (length pmf)) (c .before .before .lower .ensures) (c .before .upper .ensures) ∙ sym (accepted-bracket pmf (a .state-count) (a .percent) accepted)
+
+pub percentile-bracket-spec : {M : Type 1} → statement M
+percentile-bracket-spec =
+    tie.close
+    (tie.spec
+    refused-requires
+    returns
+    refused-requires-2
+    returns-2
+    refused-requires-3
+    returns-3
+    refused-requires-4
+    returns-4
+    refused-requires-5
+    returns-5
+    refused-requires-6
+    returns-6
+    sum-fits-requires
+    refused-requires-7
+    returns-7
+    lower-requires
+    upper-requires
+    cast-placed
+    placed-requires
+    returns-8)

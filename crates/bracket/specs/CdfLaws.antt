@@ -1,0 +1,37 @@
+-- Laws of the sum of the first n chances, and of a sum that is checked chance by chance.
+use mathlib.Core.Path.{_≡_, ap}
+use mathlib.Core.Bool.{true, false}
+use mathlib.Core.List.{List}
+use Prim.Native.Nat.{ℕ, _+_, _≤_, _<_}
+use native.Mathlib.Omega.{arith}
+use lib.Dec.{leb}
+use lib.ListN.{length, getD}
+use borrow.Author.Tests.{le-leb, lt-leb}
+use Rattle.runlength.specs.SumLaws.{sum-zero, sum-more, sum-upto}
+use Rattle.bracket.specs.Limits.{whole}
+use Rattle.bracket.specs.Bracket.{cdfOf}
+
+module _ (pmf : List ℕ) where
+  pub cdf-zero : cdfOf pmf 0 ≡ 0
+  unfolding cdfOf
+  cdf-zero = sum-zero (λ k. getD pmf k 0)
+
+  -- one chance more
+  pub cdf-more : (n : ℕ) → cdfOf pmf (n + 1) ≡ cdfOf pmf n + getD pmf n 0
+  unfolding cdfOf
+  cdf-more n = sum-more n (λ k. getD pmf k 0)
+
+  -- fewer chances, a smaller sum
+  pub cdf-upto : (m n : ℕ) → m ≤ n → cdfOf pmf m ≤ cdfOf pmf n
+  unfolding cdfOf
+  cdf-upto m n h = sum-upto m n (λ k. getD pmf k 0) h
+
+  -- a chance over what is left: the whole list sums to more
+  pub total-over : (left i : ℕ) → cdfOf pmf i + left ≡ whole → i < length pmf → left < getD pmf i 0
+      → leb (cdfOf pmf (length pmf)) whole ≡ false
+  total-over left i e h l =
+      lt-leb (cdfOf pmf (length pmf)) whole (omega (arith, cdf-more i, cdf-upto (i + 1) (length pmf) (omega arith)))
+
+  -- nothing is over at the end: the whole list sums to no more
+  pub total-within : (left i : ℕ) → cdfOf pmf i + left ≡ whole → i ≡ length pmf → leb (cdfOf pmf (length pmf)) whole ≡ true
+  total-within left i e h = le-leb (cdfOf pmf (length pmf)) whole (omega (arith, ap (λ (n : ℕ). cdfOf pmf n) h))

@@ -1,0 +1,11 @@
+pub mod Limits
+pub mod Refusal
+pub mod Bracket
+pub mod Accepted
+pub mod Reached
+pub mod CdfLaws
+pub mod LeastLaws
+pub mod QuotientLaws
+pub mod ReachedLaws
+pub mod RefusedLaws
+pub mod BracketLaws

@@ -1,0 +1,61 @@
+-- Laws of the bracket's refusals: which call is refused by which number, and which is answered.
+use mathlib.Core.Path.{_≡_, ap, _∙_}
+use mathlib.Core.Bool.{Bool, true, false, cond}
+use mathlib.Core.List.{List}
+use Prim.Native.Nat.{ℕ, _≤_, _<_}
+use lib.Dec.{leb}
+use lib.ListN.{length}
+use borrow.Author.Tests.{le-leb, lt-leb}
+use Rattle.rules.specs.Check.{within}
+use Rattle.runlength.specs.Percentile.{least}
+use Rattle.bracket.specs.declared.BracketAnswer.the-variants.{Refused}
+use Rattle.rules.specs.Bounds.{maxStates}
+use Rattle.bracket.specs.Limits.{minLength, maxLength, minStates, minPercent, maxPercent, whole}
+use Rattle.bracket.specs.Refusal.{badListLength, badStateCount, badPercent, badTotal}
+use Rattle.bracket.specs.Bracket.{cdfOf, lowTest, highTest, bracketBy, bracketOf}
+
+-- a number in its bounds, below them, above them
+module _ (low high x : ℕ) where
+  pub in-range : low ≤ x → x ≤ high → within low high x ≡ true
+  in-range h k = ap (λ (b : Bool). cond b (leb x high) false) (le-leb low x h) ∙ le-leb x high k
+
+  pub under-range : x < low → within low high x ≡ false
+  under-range h = ap (λ (b : Bool). cond b (leb x high) false) (lt-leb low x h)
+
+  pub over-range : low ≤ x → high < x → within low high x ≡ false
+  over-range h k = ap (λ (b : Bool). cond b (leb x high) false) (le-leb low x h) ∙ lt-leb x high k
+
+module _ (pmf : List ℕ) (states p : ℕ) where
+  pub refused-length : within minLength maxLength (length pmf) ≡ false → bracketOf pmf states p ≡ Refused badListLength
+  unfolding bracketOf
+  refused-length e = rw e
+
+  module _ (not-empty : minLength ≤ length pmf) (short : length pmf ≤ maxLength) where
+    length-in : within minLength maxLength (length pmf) ≡ true
+    length-in = in-range minLength maxLength (length pmf) not-empty short
+
+    pub refused-states : within minStates maxStates states ≡ false → bracketOf pmf states p ≡ Refused badStateCount
+    unfolding bracketOf
+    refused-states e = rw (length-in, e)
+
+    module _ (some-states : minStates ≤ states) (few-states : states ≤ maxStates) where
+      states-in : within minStates maxStates states ≡ true
+      states-in = in-range minStates maxStates states some-states few-states
+
+      pub refused-percent : within minPercent maxPercent p ≡ false → bracketOf pmf states p ≡ Refused badPercent
+      unfolding bracketOf
+      refused-percent e = rw (length-in, states-in, e)
+
+      module _ (some-percent : minPercent ≤ p) (part-percent : p ≤ maxPercent) where
+        percent-in : within minPercent maxPercent p ≡ true
+        percent-in = in-range minPercent maxPercent p some-percent part-percent
+
+        pub refused-total : leb (cdfOf pmf (length pmf)) whole ≡ false → bracketOf pmf states p ≡ Refused badTotal
+        unfolding bracketOf
+        refused-total e = rw (length-in, states-in, percent-in, e)
+
+        -- no refusal applies
+        pub answered : leb (cdfOf pmf (length pmf)) whole ≡ true
+            → bracketOf pmf states p ≡ bracketBy (least (lowTest pmf states p) (length pmf)) (least (highTest pmf p) (length pmf)) (length pmf)
+        unfolding bracketOf
+        answered e = rw (length-in, states-in, percent-in, e)

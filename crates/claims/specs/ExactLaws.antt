@@ -1,0 +1,68 @@
+-- The exact sum and the exact mean are those of the plain chart as an automaton, and of the chain of the states that are met. Laws.
+use mathlib.Core.Path.{_≡_, refl, ap, _∙_}
+use mathlib.Core.Bool.{Bool, true, false}
+use mathlib.Core.List.{List, [], _∷_}
+use Prim.Native.Nat.{ℕ, suc, _*_, _≤_}
+use lib.Dec.{eqb}
+use Rattle.rules.specs.declared.Rule.{Rule}
+use Rattle.rules.specs.Bounds.{zoneCount, maxStates}
+use Rattle.rules.specs.InBounds.{AllInBounds}
+use Rattle.runlength.specs.Sum.{only}
+use Rattle.runlength.specs.SequenceLaws.{sequences-cong-all}
+use Rattle.runlength.specs.Automaton.{Automaton, product, signals, runLength, exactCdf, exactRestrictedMean}
+use Rattle.runlength.specs.Listed.{listedAutomaton}
+use Rattle.runlength.specs.Future.{EqualFuture}
+use Rattle.runlength.specs.FutureLaws.{future-cdf, future-mean}
+use Rattle.monitor.specs.ReferenceChart.{rowMask}
+use Rattle.states.specs.States.{moves}
+use Rattle.states.specs.Automata.{stateAutomaton, referenceAutomaton}
+use Rattle.states.specs.AutomataLaws.{explored-reference}
+use Rattle.table.specs.Table.{weightOf, stateCount}
+use Rattle.claims.specs.Exact.{freeAnswers, saysSignal, firstSignal, exactSum, exactMean}
+
+module _ (rs : List Rule) where
+  -- the chart says signal at least once just where its automaton signals
+  free-signals : (q row : List ℕ) → saysSignal (freeAnswers rs row q) ≡ signals (referenceAutomaton rs) row q
+  unfolding freeAnswers saysSignal signals
+  free-signals [] row = refl
+  free-signals (z ∷ q) row = each (eqb (rowMask rs (z ∷ row)) 0) refl (free-signals q (z ∷ row))
+    where
+      each : (b : Bool) → eqb (rowMask rs (z ∷ row)) 0 ≡ b → saysSignal (freeAnswers rs (z ∷ row) q) ≡ signals (referenceAutomaton rs) (z ∷ row) q
+          → saysSignal (freeAnswers rs row (z ∷ q)) ≡ signals (referenceAutomaton rs) row (z ∷ q)
+      each true e f = rw e f
+      each false e f = rw e
+
+  -- and the number of its first signalling point is the run length
+  free-runLength : (q row : List ℕ) → firstSignal (freeAnswers rs row q) ≡ runLength (referenceAutomaton rs) row q
+  unfolding freeAnswers firstSignal runLength
+  free-runLength [] row = refl
+  free-runLength (z ∷ q) row = each (eqb (rowMask rs (z ∷ row)) 0) refl (free-runLength q (z ∷ row))
+    where
+      each : (b : Bool) → eqb (rowMask rs (z ∷ row)) 0 ≡ b → firstSignal (freeAnswers rs (z ∷ row) q) ≡ runLength (referenceAutomaton rs) (z ∷ row) q
+          → firstSignal (freeAnswers rs row (z ∷ q)) ≡ runLength (referenceAutomaton rs) row (z ∷ q)
+      each true e f = rw e (ap suc f)
+      each false e f = rw e
+
+  module _ (w : List ℕ) where
+    pub sum-of-chart : (n : ℕ) → exactSum rs w n ≡ exactCdf (referenceAutomaton rs) (weightOf w) n
+    unfolding exactSum exactCdf
+    sum-of-chart n = sequences-cong-all zoneCount n (λ q. ap (λ b. only b (product (weightOf w) q)) (free-signals q []))
+
+    pub mean-of-chart : (h : ℕ) → exactMean rs w h ≡ exactRestrictedMean (referenceAutomaton rs) (weightOf w) h
+    unfolding exactMean exactRestrictedMean
+    mean-of-chart h = sequences-cong-all zoneCount h (λ q. ap (λ k. product (weightOf w) q * k) (free-runLength q []))
+
+    -- where the states are not too many, they are those of the chain that the table is made of
+    module _ (bounds : AllInBounds rs) (few : stateCount rs ≤ maxStates) where
+      abbrev chain : Automaton ℕ
+      chain = listedAutomaton zoneCount (stateCount rs) (moves (stateAutomaton rs))
+
+      same-future : EqualFuture (referenceAutomaton rs) chain [] 0
+      unfolding stateCount
+      same-future = explored-reference rs bounds few
+
+      pub sum-of-chain : (n : ℕ) → exactSum rs w n ≡ exactCdf (listedAutomaton zoneCount (stateCount rs) (moves (stateAutomaton rs))) (weightOf w) n
+      sum-of-chain n = sum-of-chart n ∙ future-cdf (referenceAutomaton rs) chain same-future (weightOf w) n
+
+      pub mean-of-chain : (h : ℕ) → exactMean rs w h ≡ exactRestrictedMean (listedAutomaton zoneCount (stateCount rs) (moves (stateAutomaton rs))) (weightOf w) h
+      mean-of-chain h = mean-of-chart h ∙ future-mean (referenceAutomaton rs) chain same-future (weightOf w) h

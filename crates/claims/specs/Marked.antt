@@ -1,0 +1,83 @@
+-- CLAIM: document 01's marked examples, one table with one proof: what the operations' definitions give, and what the paper says.
+use mathlib.Core.Path.{_≡_, refl}
+use mathlib.Core.List.{List, [], _∷_}
+use Prim.Native.Nat.{ℕ, _-_, _/_, _^_}
+use lib.IntN.{pos}
+use Rattle.rules.specs.declared.RuleList.{RuleList}
+use Rattle.rules.specs.Check.{noRule, activeRules, rulesFrom, checkRules, checkOf}
+use Rattle.rules.specs.Ready.{ruleOf}
+use Rattle.rules.specs.Mask.{maskOf}
+use Rattle.runlength.specs.Sum.{sum, tab, front}
+use Rattle.runlength.specs.Chain.{inflow, signalled, units, pmf, survival, restrictedMean}
+use Rattle.runlength.specs.Percentile.{least}
+use Rattle.monitor.specs.declared.zone.Zoned.{Zoned}
+use Rattle.monitor.specs.declared.zone.Zoned.the-variants.{Zone}
+use Rattle.monitor.specs.Zone.{zoneOf}
+use Rattle.monitor.specs.Window.{hitsUpTo, live}
+use Rattle.monitor.specs.State.{holding, nextState, moveOf}
+use Rattle.states.specs.States.{placeOf, withState, enter, busy, due, next, turns, explored, states, moves}
+use Rattle.table.specs.declared.TableAnswer.{TableAnswer}
+use Rattle.table.specs.Table.{stateCount, tableCheck, TableResult, tableOf}
+use Rattle.bracket.specs.declared.BracketAnswer.{BracketAnswer}
+use Rattle.bracket.specs.declared.BracketAnswer.the-variants.{At, Between, Open, Beyond}
+use Rattle.bracket.specs.Bracket.{cdfOf, highTest, lowTest, bracketBy, bracketOf}
+
+-- what an example is of
+pub data Figure : Type 0 where
+  zone : Zoned → Figure
+  number : ℕ → Figure
+  chances : List ℕ → Figure
+  left : List ℕ → Figure
+  answer : TableAnswer → Figure
+  bracket : BracketAnswer → Figure
+
+-- a rule list of one rule
+abbrev oneRule : ℕ → ℕ → ℕ → RuleList
+oneRule k m zones =
+    record { rules = ruleOf k m zones ∷ noRule ∷ noRule ∷ noRule ∷ noRule ∷ noRule ∷ noRule ∷ noRule ∷ []; len = 1 }
+
+-- the listing's weights, half in A1 and half in C2, and two lent lists of its horizon
+abbrev halves : List ℕ
+halves = 0 ∷ 536870912 ∷ 0 ∷ 0 ∷ 536870912 ∷ 0 ∷ 0 ∷ []
+
+abbrev lent : List ℕ
+lent = 0 ∷ 0 ∷ 0 ∷ 0 ∷ []
+
+-- the table of one rule with these
+abbrev tableFor : RuleList → TableResult
+tableFor l = tableOf l halves 4 lent lent
+
+abbrev listing : RuleList
+listing = oneRule 2 2 2
+
+-- the rows; `pick` takes what is given, or what the paper says
+abbrev pub marked : (Figure → Figure → Figure) → List Figure
+marked pick =
+    -- zones with centre 100 and step 10: S, A1, C1, C2, S
+    pick (zone (zoneOf (pos 131) (pos 100) 10)) (zone (Zone 0))
+    ∷ pick (zone (zoneOf (pos 130) (pos 100) 10)) (zone (Zone 1))
+    ∷ pick (zone (zoneOf (pos 100) (pos 100) 10)) (zone (Zone 3))
+    ∷ pick (zone (zoneOf (pos 99) (pos 100) 10)) (zone (Zone 4))
+    ∷ pick (zone (zoneOf (pos 69) (pos 100) 10)) (zone (Zone 0))
+    -- N for 2,3 and for 4,5
+    ∷ pick (number (stateCount (activeRules (oneRule 2 3 6)))) (number 3)
+    ∷ pick (number (stateCount (activeRules (oneRule 4 5 6)))) (number 10)
+    -- the listing: chance and left, N, left at 4 and the cut mean
+    ∷ pick (chances (tableFor listing .pmfList)) (chances (0 ∷ 288230376151711744 ∷ 144115188075855872 ∷ 144115188075855872 ∷ []))
+    ∷ pick (left (tableFor listing .survivalList)) (left (1152921504606846976 ∷ 864691128455135232 ∷ 720575940379279360 ∷ 576460752303423488 ∷ []))
+    ∷ pick (answer (tableFor listing .answer)) (answer (TableAnswer.Accepted (record { states = 2; survival = 576460752303423488; «mean_whole» = 3; «mean_fraction» = 432345564227567616 })))
+    -- its brackets of 25 and 75
+    ∷ pick (bracket (bracketOf (tableFor listing .pmfList) (stateCount (activeRules listing)) 25)) (bracket (At 2))
+    ∷ pick (bracket (bracketOf (tableFor listing .pmfList) (stateCount (activeRules listing)) 75)) (bracket (Beyond 4))
+    -- the two short lists
+    ∷ pick (bracket (bracketOf ((2 ^ 59 - 1) ∷ []) 1 50)) (bracket (Open 1))
+    ∷ pick (bracket (bracketOf ((2 ^ 59 - 1) ∷ 1 ∷ []) 1 50)) (bracket (Between 1 2))
+    -- rule 2,3,2 on the listing's weights
+    ∷ pick (chances (tableFor (oneRule 2 3 2) .pmfList)) (chances (0 ∷ (2 ^ 60 / 4) ∷ (2 ^ 60 / 4) ∷ (2 ^ 60 / 8) ∷ []))
+    ∷ []
+
+pub marked-examples : marked (λ given said. given) ≡ marked (λ given said. said)
+unfolding zoneOf stateCount states moves explored turns next due busy enter withState placeOf moveOf nextState holding maskOf live hitsUpTo
+    tableOf tableCheck checkOf checkRules rulesFrom front tab sum pmf survival restrictedMean units inflow signalled
+    bracketOf bracketBy cdfOf lowTest highTest least
+marked-examples = refl
