@@ -7,3 +7,4 @@ pub mod TableCallLaws
 pub mod BracketCallLaws
 pub mod Demand3
 pub mod Marked
+pub mod BoxPlot

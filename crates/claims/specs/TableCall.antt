@@ -29,15 +29,12 @@ chainOf l w = tableChain (activeRules l) w
 
 -- what follows from being accepted with these figures
 pub record AcceptedCall (l : RuleList) (w : List ℕ) (h : ℕ) (p s : List ℕ) (f : TableFigures) : Type 0 where
-  pub check : tableCheck l w h (length p) (length s) ≡ Accepted
   pub rules : checkOf l ≡ Accepted
   pub bounds : AllInBounds (activeRules l)
   pub weights : sum zoneCount (weightOf w) ≡ 2 ^ 30
   pub low : minHorizon ≤ h
   pub high : h ≤ maxHorizon
   pub few : stateCount (activeRules l) ≤ maxStates
-  pub pmf-room : h ≤ length p
-  pub survival-room : h ≤ length s
   pub states-are : f .states ≡ stateCount (activeRules l)
   pub mean-is : meanOf f ≡ restrictedMean (chainOf l w) h
   pub chances-are : chancesOf l w h p s ≡ tab h (λ k. pmf (chainOf l w) (suc k))

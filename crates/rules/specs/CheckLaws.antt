@@ -42,14 +42,16 @@ passed : (t : Bool) (a : Checked) (x : Refusal) → cond t a (Refused x) ≡ Acc
 passed true a x e = (refl, e)
 passed false a x e = let z : _≡_ {A = ℕ} 0 1 = cc in absurd (omega arith)
 
-between : (low high x : ℕ) → within low high x ≡ true → (low ≤ x) × (x ≤ high)
+-- a number that passes is in the range
+pub between : (low high x : ℕ) → within low high x ≡ true → (low ≤ x) × (x ≤ high)
 between low high x e = go (leb low x) refl e
   where
     go : (t : Bool) → leb low x ≡ t → cond t (leb x high) false ≡ true → (low ≤ x) × (x ≤ high)
     go true p q = (leb-true low x p, leb-true x high q)
     go false p q = let z : _≡_ {A = ℕ} 0 1 = cc in absurd (omega arith)
 
-both : (a b : Checked) → orElse a b ≡ Accepted → (a ≡ Accepted) × (b ≡ Accepted)
+-- two checks in a row accept where both do
+pub both : (a b : Checked) → orElse a b ≡ Accepted → (a ≡ Accepted) × (b ≡ Accepted)
 both Accepted b e = (refl, e)
 both (Refused x) b e = let z : _≡_ {A = ℕ} 0 1 = cc in absurd (omega arith)
 

@@ -4,3 +4,5 @@ pub mod Refusal
 pub mod Table
 pub mod PrefixLaws
 pub mod TableLaws
+pub mod Accepted
+pub mod AcceptedLaws

@@ -1,0 +1,29 @@
+-- The restricted mean in units of 2^-60, rounded to parts of 2^-36, and its error bound. Definitions.
+use Prim.Native.Nat.{ℕ, _+_, _-_, _*_, _/_, _^_}
+use Rattle.rows.specs.Limits.{unitsPerOne}
+
+-- parts of 2^-36 in one, and units of 2^-60 in a part
+abbrev pub partsPerOne : ℕ
+partsPerOne = 2 ^ 36
+
+abbrev pub unitsPerPart : ℕ
+unitsPerPart = 2 ^ 24
+
+-- a mean's whole part and fraction, in units
+abbrev pub meanUnits : ℕ → ℕ → ℕ
+meanUnits whole fraction = whole * unitsPerOne + fraction
+
+-- units as parts, rounded down and up
+abbrev pub roundDown : ℕ → ℕ
+roundDown u = u / unitsPerPart
+
+abbrev pub roundUp : ℕ → ℕ
+roundUp u = (u + (unitsPerPart - 1)) / unitsPerPart
+
+-- the error bound (document 01's allowed shortfall) of the mean cut at h with n states, in units
+abbrev pub errorBoundOf : ℕ → ℕ → ℕ
+errorBoundOf n h = n * h * (h - 1) / 2
+
+-- more than it ever is: 1,024 states and a horizon of 65,535 are the most
+abbrev pub maxErrorBound : ℕ
+maxErrorBound = 2 ^ 42

@@ -1,0 +1,8 @@
+mod Digit
+mod Letter
+mod Minus
+mod Sign
+mod Weight
+mod On
+mod Tenth
+pub mod Else

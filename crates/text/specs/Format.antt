@@ -1,0 +1,79 @@
+-- The format: the bytes that each kind of line is. Definitions.
+use Prim.Native.Nat.{ℕ, suc, _≤_}
+use mathlib.Core.List.{List, [], _∷_, _++_}
+use lib.IntN.{ℤ, pos, negsuc}
+use Rattle.text.specs.declared.lines.ZoneWeights.{ZoneWeights}
+use Rattle.text.specs.declared.lines.Line.{Line}
+use Rattle.text.specs.declared.lines.Line.the-variants.{Weights, Rule, Horizon, Chart, Point, Other}
+use Rattle.text.specs.Decimal.{decimal, signedDecimal, maxUnsigned, maxPositive, maxNegative}
+use Rattle.text.specs.Spans.{Spans}
+use Rattle.text.specs.Word.{comma, newline, weightsWord, ruleWord, horizonWord, chartWord, pointWord}
+
+-- a field is a comma and a number
+abbrev pub field : ℕ → List ℕ
+field n = comma ++ decimal n
+
+abbrev pub signedField : ℤ → List ℕ
+signedField x = comma ++ signedDecimal x
+
+unfoldable pub fields : List ℕ → List ℕ
+fields [] = []
+fields (n ∷ ns) = field n ++ fields ns
+
+-- the weights from zone 0 on
+abbrev pub weightList : ZoneWeights → List ℕ
+weightList w = w .s ∷ w .a1 ∷ w .b1 ∷ w .c1 ∷ w .c2 ∷ w .b2 ∷ w .a2 ∷ []
+
+-- the bytes of a line: its keyword, its fields, and LF
+abbrev pub bytesOf : Line → List ℕ
+bytesOf (Weights w next) = weightsWord ++ fields (weightList w) ++ newline
+bytesOf (Rule k m zones next) = ruleWord ++ field k ++ field m ++ field zones ++ newline
+bytesOf (Horizon horizon next) = horizonWord ++ field horizon ++ newline
+bytesOf (Chart centre sigma next) = chartWord ++ signedField centre ++ field sigma ++ newline
+bytesOf (Point reading next) = pointWord ++ signedField reading ++ newline
+bytesOf Other = []
+
+-- the offset of the line behind it
+abbrev pub nextOf : Line → ℕ
+nextOf (Weights w next) = next
+nextOf (Rule k m zones next) = next
+nextOf (Horizon horizon next) = next
+nextOf (Chart centre sigma next) = next
+nextOf (Point reading next) = next
+nextOf Other = 0
+
+-- a line of some kind
+abbrev pub NotOther : Line → Type 0
+NotOther (Weights w next) = Unit {0}
+NotOther (Rule k m zones next) = Unit {0}
+NotOther (Horizon horizon next) = Unit {0}
+NotOther (Chart centre sigma next) = Unit {0}
+NotOther (Point reading next) = Unit {0}
+NotOther Other = ⊥
+
+-- numbers within 32 bits
+abbrev pub Unsigned : ℕ → Type 0
+Unsigned n = n ≤ maxUnsigned
+
+pub data AllUnsigned : List ℕ → Type 0 where
+  none : AllUnsigned []
+  one : {n : ℕ} {ns : List ℕ} → Unsigned n → AllUnsigned ns → AllUnsigned (n ∷ ns)
+
+-- negsuc n is -(n + 1)
+abbrev pub InSigned : ℤ → Type 0
+InSigned (pos n) = n ≤ maxPositive
+InSigned (negsuc n) = suc n ≤ maxNegative
+
+-- every number of the line is within 32 bits; Other is no line
+abbrev pub InRange : Line → Type 0
+InRange (Weights w next) = AllUnsigned (weightList w)
+InRange (Rule k m zones next) = Unsigned k × Unsigned m × Unsigned zones
+InRange (Horizon horizon next) = Unsigned horizon
+InRange (Chart centre sigma next) = InSigned centre × Unsigned sigma
+InRange (Point reading next) = InSigned reading
+InRange Other = ⊥
+
+-- the line stands in the text s at the offset `at`, with the next line right behind it
+pub record LineIs (s : List ℕ) (at : ℕ) (l : Line) : Type 0 where
+  pub spans : Spans s at (bytesOf l) (nextOf l)
+  pub range : InRange l

@@ -1,0 +1,20 @@
+pub mod Decimal
+pub mod DecimalLaws
+pub mod Spans
+pub mod SpansLaws
+pub mod Word
+pub mod WordLaws
+pub mod Number
+pub mod Signed
+pub mod Format
+pub mod NumberLaws
+pub mod ReadBackLaws
+pub mod SignedLaws
+pub mod Line
+pub mod OnLine
+pub mod FieldsLaws
+pub mod LineLaws
+pub mod LineReadLaws
+mod Examples
+pub mod Wrote
+pub mod WroteLaws
