@@ -1,4 +1,4 @@
-//! Measures the proved library against the second implementation: same machine, same input, both for release, in one run.
+//! Measures the proved library against the second implementation: the same input, both built for release, in one run.
 use bench::{chart, duncan, large, proved, table, western_electric, Rule, IN_CONTROL, RARE, ZONES};
 use std::time::Instant;
 
