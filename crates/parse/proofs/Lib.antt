@@ -1,0 +1,4 @@
+mod RuleTurns
+mod PointTurns
+mod TableCases
+mod MonitorCases

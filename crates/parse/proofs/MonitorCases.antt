@@ -1,0 +1,50 @@
+-- The cases of the monitor program's text, each as its return meets it.
+use Prim.Native.Nat.{ℕ, _+_, _*_, _≤_, _<_}
+use mathlib.Core.Path.{_≡_}
+use mathlib.Core.List.{List, [], _∷_}
+use native.Mathlib.Omega.{arith}
+use lib.ListN.{length}
+use lib.IntN.{ℤ}
+use borrow.Author.Tests.{le-leb, lt-leb}
+use Rattle.text.specs.declared.lines.Line.{Line}
+use Rattle.text.specs.declared.lines.Line.the-variants.{Chart}
+use Rattle.text.specs.Line.{lineAt}
+use Rattle.text.proofs.Else.{TagIn, not-chart}
+use Rattle.parse.specs.declared.rule_lines.RulesRead.{RulesRead}
+use Rattle.parse.specs.declared.point_lines.PointsRead.{PointsRead}
+use Rattle.parse.specs.declared.monitors.MonitorText.{MonitorText}
+use Rattle.parse.specs.Limits.{maxText, notRefused, badLine, tooLong}
+use Rattle.parse.specs.Rules.{afterRules, rulesRead}
+use Rattle.parse.specs.RulesLaws.{rules-fit}
+use Rattle.parse.specs.Readings.{afterPoints, pointsRead}
+use Rattle.parse.specs.ReadingsLaws.{points-fit}
+use Rattle.parse.specs.MonitorText.{refusedMonitor, readMonitor, monitorEnd, monitorText}
+
+pub too-long : (s : List ℕ) → maxText < length s → refusedMonitor tooLong ≡ monitorText s
+unfolding monitorText
+too-long s h = rw (lt-leb (length s) maxText h)
+
+pub no-chart : (s : List ℕ) → length s ≤ maxText → (x : Line) → x ≡ lineAt s 0 → TagIn (0 ∷ 1 ∷ 2 ∷ 4 ∷ 5 ∷ []) x → refusedMonitor (badLine 1) ≡ monitorText s
+unfolding monitorText
+no-chart s h x e t = rw (le-leb (length s) maxText h, ← e, not-chart x _ _ t)
+
+-- behind the chart, the rules and the points
+module _ (s : List ℕ) (short : length s ≤ maxText) {c : ℤ} {d at : ℕ} (first : lineAt s 0 ≡ Chart c d at)
+    (r : RulesRead) (read : r ≡ rulesRead s at 2) (p : PointsRead) (found : p ≡ pointsRead s (r .next)) where
+  -- the number of the first line behind the points fits
+  pub line-fits : 8 * (r .line + p .count) ≤ 2 * maxText + 16
+  unfolding rulesRead pointsRead
+  line-fits = rw (found, read) (omega (arith, rules-fit (length s) s at, points-fit (length s) s (afterRules (length s) s at)))
+
+  pub goes-on : p .next < length s → refusedMonitor (badLine (r .line + p .count)) ≡ monitorText s
+  unfolding rulesRead pointsRead monitorEnd monitorText
+  goes-on l =
+      let h = rw (found, read) at l in
+      rw (found, read, le-leb (length s) maxText short, first, lt-leb (length s) (afterPoints (length s) s (afterRules (length s) s at)) h)
+
+  pub whole : length s ≤ p .next
+      → _≡_ {A = MonitorText} (record { refusal = notRefused; centre = c; sigma = d; list = r .list; points = r .next; count = p .count }) (monitorText s)
+  unfolding rulesRead pointsRead readMonitor monitorEnd monitorText
+  whole l =
+      let h = rw (found, read) at l in
+      rw (found, read, le-leb (length s) maxText short, first, le-leb (length s) (afterPoints (length s) s (afterRules (length s) s at)) h)

@@ -1,0 +1,92 @@
+-- The turns of the loop over the rule lines: what is read so far, and what is left with fuel enough, are the whole.
+use Prim.Native.Nat.{ℕ, zero, suc, _+_, _*_, _≤_}
+use mathlib.Core.Path.{_≡_, refl, sym, ap, _∙_}
+use mathlib.Core.List.{List, [], _∷_, _++_, append-nil}
+use native.Mathlib.Omega.{arith}
+use lib.ListN.{length, length-append}
+use lib.Seq.{append-snoc}
+use Rattle.rules.specs.declared.Rule.{Rule}
+use Rattle.rules.specs.declared.RuleList.{RuleList}
+use Rattle.rules.specs.Ready.{ruleOf}
+use Rattle.text.specs.declared.lines.Line.{Line}
+use Rattle.text.specs.declared.lines.Line.the-variants.{Rule as RuleLine}
+use Rattle.text.specs.Line.{lineAt}
+use Rattle.text.specs.LineLaws.{line-stands, line-ahead}
+use Rattle.text.proofs.Else.{TagIn, not-rule}
+use Rattle.parse.specs.declared.rule_lines.RulesRead.{RulesRead}
+use Rattle.parse.specs.Rules.{rulesAt, afterRules, listOf, pushed, rulesRead}
+use Rattle.parse.specs.RulesLaws.{pushed-list}
+
+-- the list l holds the rules from `at` on up to the line at i
+pub record RulesUpTo (s : List ℕ) (at : ℕ) (l : RuleList) (i : ℕ) : Type 0 where
+  pub rules : List Rule
+  pub fuel : ℕ
+  pub enough : length s ≤ i + fuel
+  pub held : l ≡ listOf rules
+  pub rest : rules ++ rulesAt fuel s i ≡ rulesAt (length s) s at
+  pub end : afterRules fuel s i ≡ afterRules (length s) s at
+  pub few : 8 * length rules ≤ i
+  pub fit : 8 * length rules ≤ length s
+
+pub rules-start : (s : List ℕ) (at : ℕ) (l : RuleList) → l ≡ listOf [] → RulesUpTo s at l at
+rules-start s at l e = record {
+  rules = [];
+  fuel = length s;
+  enough = omega arith;
+  held = e;
+  rest = refl;
+  end = refl;
+  few = omega arith;
+  fit = omega arith;
+}
+
+-- the number of rules fits
+pub rules-few : {s : List ℕ} {at : ℕ} {l : RuleList} {i : ℕ} → RulesUpTo s at l i → 8 * l .len ≤ length s
+unfolding listOf
+rules-few u = rw (u .held) (u .fit)
+
+-- a rule line reaches ahead, and not over the end
+pub rule-ahead : (s : List ℕ) (i k m zones next : ℕ) → lineAt s i ≡ RuleLine k m zones next → (i + 8 ≤ next) × (next ≤ length s)
+rule-ahead s i k m zones next e = line-ahead (RuleLine k m zones next) (line-stands s i (RuleLine k m zones next) e tt)
+
+pub rules-more : {s : List ℕ} {at : ℕ} {l : RuleList} {i : ℕ} (k m zones next : ℕ) → lineAt s i ≡ RuleLine k m zones next
+    → RulesUpTo s at l i → RulesUpTo s at (pushed l (ruleOf k m zones)) next
+unfolding rulesAt afterRules
+rules-more {s} {at} {l} {i} k m zones next e u = go (u .fuel) (u .enough) (u .rest) (u .end)
+  where
+    r : Rule
+    r = ruleOf k m zones
+
+    a : (i + 8 ≤ next) × (next ≤ length s)
+    a = rule-ahead s i k m zones next e
+
+    n : length (u .rules ++ (r ∷ [])) ≡ length (u .rules) + 1
+    n = simp length-append
+
+    go : (f : ℕ) → length s ≤ i + f → u .rules ++ rulesAt f s i ≡ rulesAt (length s) s at → afterRules f s i ≡ afterRules (length s) s at
+        → RulesUpTo s at (pushed l (ruleOf k m zones)) next
+    go zero h p q = absurd (omega (arith, a))
+    go (suc f) h p q = record {
+      rules = u .rules ++ (r ∷ []);
+      fuel = f;
+      enough = omega (arith, a);
+      held = ap (λ (x : RuleList). pushed x r) (u .held) ∙ pushed-list (u .rules) r;
+      rest = append-snoc (u .rules) r (rulesAt f s next) ∙ (rw e at p);
+      end = rw e at q;
+      few = omega (arith, a, n, u .few);
+      fit = omega (arith, a, n, u .few);
+    }
+
+-- the line at i is no rule line
+pub rules-done : {s : List ℕ} {at : ℕ} {l : RuleList} {i : ℕ} (x : Line) → x ≡ lineAt s i → TagIn (0 ∷ 2 ∷ 3 ∷ 4 ∷ 5 ∷ []) x
+    → RulesUpTo s at l i → (line : ℕ) → _≡_ {A = RulesRead} (record { list = l; next = i; line = line + l .len }) (rulesRead s at line)
+unfolding rulesAt afterRules rulesRead listOf
+rules-done {s} {at} {l} {i} x e t u line = go (u .fuel) (u .rest) (u .end)
+  where
+    go : (f : ℕ) → u .rules ++ rulesAt f s i ≡ rulesAt (length s) s at → afterRules f s i ≡ afterRules (length s) s at
+        → _≡_ {A = RulesRead} (record { list = l; next = i; line = line + l .len }) (rulesRead s at line)
+    go zero p q = rw (← p, ← q, append-nil, u .held)
+    go (suc f) p q =
+        let a : u .rules ≡ rulesAt (length s) s at = sym (append-nil (u .rules)) ∙ (rw (← e, not-rule x _ _ t) at p) in
+        let b : i ≡ afterRules (length s) s at = rw (← e, not-rule x _ _ t) at q in
+        rw (← a, ← b, u .held)

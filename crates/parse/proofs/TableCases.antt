@@ -1,0 +1,48 @@
+-- The cases of the table program's text, each as its return meets it.
+use Prim.Native.Nat.{ℕ, _+_, _*_, _≤_, _<_}
+use mathlib.Core.Path.{_≡_}
+use mathlib.Core.List.{List, [], _∷_}
+use native.Mathlib.Omega.{arith}
+use lib.ListN.{length}
+use borrow.Author.Tests.{le-leb, lt-leb}
+use Rattle.rules.specs.Refusal.{refusal}
+use Rattle.text.specs.declared.lines.ZoneWeights.{ZoneWeights}
+use Rattle.text.specs.declared.lines.Line.{Line}
+use Rattle.text.specs.declared.lines.Line.the-variants.{Weights, Horizon}
+use Rattle.text.specs.Format.{weightList}
+use Rattle.text.specs.Line.{lineAt}
+use Rattle.text.proofs.Else.{TagIn, not-weights, not-horizon}
+use Rattle.parse.specs.declared.rule_lines.RulesRead.{RulesRead}
+use Rattle.parse.specs.declared.tables.TableText.{TableText}
+use Rattle.parse.specs.Limits.{maxText, notRefused, badLine, tooLong}
+use Rattle.parse.specs.Rules.{rulesRead}
+use Rattle.parse.specs.RulesLaws.{rules-fit}
+use Rattle.parse.specs.TableText.{refusedTable, readTable, tableEnd, tableText}
+
+pub too-long : (s : List ℕ) → maxText < length s → refusedTable tooLong ≡ tableText s
+unfolding tableText
+too-long s h = rw (lt-leb (length s) maxText h)
+
+pub no-weights : (s : List ℕ) → length s ≤ maxText → (x : Line) → x ≡ lineAt s 0 → TagIn (1 ∷ 2 ∷ 3 ∷ 4 ∷ 5 ∷ []) x → refusedTable (badLine 1) ≡ tableText s
+unfolding tableText
+no-weights s h x e t = rw (le-leb (length s) maxText h, ← e, not-weights x _ _ t)
+
+-- behind the weights and the rules
+module _ (s : List ℕ) (short : length s ≤ maxText) {w : ZoneWeights} {at : ℕ} (first : lineAt s 0 ≡ Weights w at) (r : RulesRead) (read : r ≡ rulesRead s at 2) where
+  -- the number of the line behind the next still fits
+  pub line-fits : 8 * r .line ≤ maxText + 16
+  unfolding rulesRead
+  line-fits = rw read (omega (arith, rules-fit (length s) s at))
+
+  pub no-horizon : (x : Line) → x ≡ lineAt s (r .next) → TagIn (0 ∷ 1 ∷ 3 ∷ 4 ∷ 5 ∷ []) x → refusedTable (badLine (r .line)) ≡ tableText s
+  unfolding rulesRead tableEnd tableText
+  no-horizon x e t = rw (read, le-leb (length s) maxText short, first, ← (rw read at e), not-horizon x _ _ t)
+
+  module _ {h end : ℕ} (last : lineAt s (r .next) ≡ Horizon h end) where
+    pub goes-on : end < length s → refusedTable (badLine (r .line + 1)) ≡ tableText s
+    unfolding rulesRead tableEnd tableText
+    goes-on l = rw (read, le-leb (length s) maxText short, first, (rw read at last), lt-leb (length s) end l)
+
+    pub whole : length s ≤ end → (v : List ℕ) → v ≡ weightList w → _≡_ {A = TableText} (record { refusal = notRefused; weights = v; list = r .list; horizon = h }) (tableText s)
+    unfolding rulesRead readTable tableEnd tableText
+    whole l v e = rw (e, read, le-leb (length s) maxText short, first, (rw read at last), le-leb (length s) end l)

@@ -1,0 +1,41 @@
+-- The monitor program's text, read whole. Definitions.
+use Prim.Native.Nat.{ℕ, _+_}
+use mathlib.Core.Bool.{cond}
+use mathlib.Core.List.{List, []}
+use lib.ListN.{length}
+use lib.Dec.{leb}
+use lib.IntN.{ℤ, pos}
+use Rattle.rules.specs.declared.Rule.{Rule}
+use Rattle.rules.specs.declared.Refusal.{Refusal}
+use Rattle.text.specs.Line.{lineAt}
+use Rattle.text.specs.OnLine.{onChart}
+use Rattle.parse.specs.declared.monitors.MonitorText.{MonitorText}
+use Rattle.parse.specs.Limits.{maxText, notRefused, badLine, tooLong}
+use Rattle.parse.specs.Rules.{rulesAt, afterRules, listOf}
+use Rattle.parse.specs.Readings.{readingsAt, afterPoints}
+
+-- a refusal comes with zeros and no rules
+unfoldable pub refusedMonitor : Refusal → MonitorText
+refusedMonitor x = record { refusal = x; centre = pos 0; sigma = 0; list = listOf []; points = 0; count = 0 }
+
+-- a chart, rules, and the point lines from the offset `at` on, one for each reading
+unfoldable pub readMonitor : ℤ → ℕ → List Rule → ℕ → List ℤ → MonitorText
+readMonitor centre sigma rs at xs = record { refusal = notRefused; centre = centre; sigma = sigma; list = listOf rs; points = at; count = length xs }
+
+-- behind the chart and the rules rs, at the offset `at`: the point lines, and the end of the text.
+-- The chart is line 1, so that the first line behind the points is the line 2 behind the number of rules and of points
+unfoldable pub monitorEnd : List ℕ → ℤ → ℕ → List Rule → ℕ → MonitorText
+monitorEnd s centre sigma rs at =
+    cond (leb (length s) (afterPoints (length s) s at))
+    (readMonitor centre sigma rs at (readingsAt (length s) s at))
+    (refusedMonitor (badLine (2 + length rs + length (readingsAt (length s) s at))))
+
+unfoldable pub monitorText : List ℕ → MonitorText
+monitorText s =
+    cond (leb (length s) maxText)
+    (onChart (lineAt s 0) (λ centre sigma at. monitorEnd s centre sigma (rulesAt (length s) s at) (afterRules (length s) s at)) (refusedMonitor (badLine 1)))
+    (refusedMonitor tooLong)
+
+-- the readings of a text that is not refused
+abbrev pub monitorReadings : List ℕ → List ℤ
+monitorReadings s = readingsAt (length s) s (monitorText s .points)

@@ -1,0 +1,113 @@
+-- Laws of the list that holds the rules read: one rule more, and the rules that it gives back.
+use Prim.Native.Nat.{ℕ, zero, suc, _+_, _*_, _≤_, _<_}
+use mathlib.Core.Path.{_≡_, refl, ap}
+use mathlib.Core.Bool.{Bool, true, false}
+use mathlib.Core.List.{List, [], _∷_, _++_}
+use native.Mathlib.Omega.{arith}
+use lib.Dec.{leb}
+use lib.ListN.{length, set, getD, length-append}
+use borrow.Author.Tests.{leb-true, leb-false}
+use Rattle.rules.specs.declared.Rule.{Rule}
+use Rattle.rules.specs.Bounds.{maxRules}
+use Rattle.rules.specs.Check.{noRule, rulesFrom, activeRules}
+use Rattle.rules.specs.Ready.{ruleOf}
+use Rattle.text.specs.declared.lines.Line.{Line}
+use Rattle.text.specs.declared.lines.Line.the-variants.{Weights, Rule as RuleLine, Horizon, Chart, Point, Other}
+use Rattle.text.specs.Line.{lineAt}
+use Rattle.text.specs.OnLine.{onRule}
+use Rattle.text.specs.LineLaws.{line-stands, line-ahead, line-beyond}
+use Rattle.parse.specs.Rules.{rulesAt, afterRules, slotsOf, listOf, pushed}
+
+-- a rule more goes into the next slot
+slots-set : (n : ℕ) (rs : List Rule) (r : Rule) → length rs < n → set (slotsOf n rs) (length rs) r ≡ slotsOf n (rs ++ (r ∷ []))
+unfolding slotsOf
+slots-set zero rs r h = absurd (omega arith)
+slots-set (suc n) [] r h = refl
+slots-set (suc n) (x ∷ rs) r h = ap (λ (l : List Rule). x ∷ l) (slots-set n rs r (omega arith))
+
+-- where no slot is left, it changes none
+slots-full : (n : ℕ) (rs : List Rule) (r : Rule) → n ≤ length rs → slotsOf n rs ≡ slotsOf n (rs ++ (r ∷ []))
+unfolding slotsOf
+slots-full zero rs r h = refl
+slots-full (suc n) [] r h = absurd (omega arith)
+slots-full (suc n) (x ∷ rs) r h = ap (λ (l : List Rule). x ∷ l) (slots-full n rs r (omega arith))
+
+more : (rs : List Rule) (r : Rule) → length (rs ++ (r ∷ [])) ≡ length rs + 1
+more rs r = simp length-append
+
+pub pushed-list : (rs : List Rule) (r : Rule) → pushed (listOf rs) r ≡ listOf (rs ++ (r ∷ []))
+unfolding listOf pushed
+pushed-list rs r = go (leb maxRules (length rs)) refl
+  where
+    go : (t : Bool) → leb maxRules (length rs) ≡ t → pushed (listOf rs) r ≡ listOf (rs ++ (r ∷ []))
+    go true e = rw (e, more rs r, slots-full maxRules rs r (leb-true _ _ e))
+    go false e = rw (e, more rs r, slots-set maxRules rs r (leb-false _ _ e))
+
+-- ---- the rules that count
+
+slots-get : (n i : ℕ) (rs : List Rule) → i < n → getD (slotsOf n rs) i noRule ≡ getD rs i noRule
+unfolding slotsOf
+slots-get zero i rs h = absurd (omega arith)
+slots-get (suc n) zero [] h = refl
+slots-get (suc n) (suc i) [] h = slots-get n i [] (omega arith)
+slots-get (suc n) zero (r ∷ rs) h = refl
+slots-get (suc n) (suc i) (r ∷ rs) h = slots-get n i rs (omega arith)
+
+from-slots : (l rs : List Rule) (i : ℕ) → ((j : ℕ) → j < length rs → getD l (i + j) noRule ≡ getD rs j noRule) → rulesFrom (length rs) i l ≡ rs
+unfolding rulesFrom
+from-slots l [] i k = refl
+from-slots l (r ∷ rs) i k =
+    let z : i + 0 ≡ i = omega arith in
+    let head : getD l i noRule ≡ r = rw z at (k 0 (omega arith)) in
+    rw (head, from-slots l rs (i + 1) (λ j h. let e : i + 1 + j ≡ i + suc j = omega arith in rw e (k (suc j) (omega arith))))
+
+-- a list of at most so many rules as there are slots has them all
+pub active-rules : (rs : List Rule) → length rs ≤ maxRules → activeRules (listOf rs) ≡ rs
+unfolding listOf
+active-rules rs h = from-slots (slotsOf maxRules rs) rs 0 (λ j l. let e : 0 + j ≡ j = omega arith in rw e (slots-get maxRules j rs (omega arith)))
+
+-- ---- the rule lines fit into the text: each has 8 bytes or more
+
+rules-span : (fuel : ℕ) (s : List ℕ) (at : ℕ) → at ≤ length s → at + 8 * length (rulesAt fuel s at) ≤ length s
+unfolding rulesAt
+rules-span zero s at h = omega arith
+rules-span (suc fuel) s at h = go (lineAt s at) refl (rules-span fuel s)
+  where
+    go : (x : Line) → lineAt s at ≡ x → ((n : ℕ) → n ≤ length s → n + 8 * length (rulesAt fuel s n) ≤ length s)
+        → at + 8 * length (onRule x (λ k m zones next. ruleOf k m zones ∷ rulesAt fuel s next) []) ≤ length s
+    go (RuleLine k m zones next) e ih =
+        let a = line-ahead (RuleLine k m zones next) (line-stands s at (RuleLine k m zones next) e tt) in
+        omega (arith, a, ih next (a .1))
+    go (Weights w next) e ih = omega arith
+    go (Horizon x next) e ih = omega arith
+    go (Chart x y next) e ih = omega arith
+    go (Point x next) e ih = omega arith
+    go Other e ih = omega arith
+
+pub rules-fit : (fuel : ℕ) (s : List ℕ) (at : ℕ) → 8 * length (rulesAt fuel s at) ≤ length s
+unfolding rulesAt
+rules-fit zero s at = omega arith
+rules-fit (suc fuel) s at = go (leb at (length s)) refl
+  where
+    go : (t : Bool) → leb at (length s) ≡ t → 8 * length (rulesAt (suc fuel) s at) ≤ length s
+    go true e = let h = rules-span (suc fuel) s at (leb-true at (length s) e) in omega (arith, h)
+    go false e = let h = leb-false at (length s) e in rw (line-beyond s at (omega arith)) (omega arith)
+
+-- ---- the fuel is enough: where the rules end there is no rule line
+
+pub rules-end : {A : Type 0} (fuel : ℕ) (s : List ℕ) (at : ℕ) (f : ℕ → ℕ → ℕ → ℕ → A) (other : A) → length s ≤ at + fuel
+    → onRule (lineAt s (afterRules fuel s at)) f other ≡ other
+unfolding afterRules
+rules-end zero s at f other h = rw (line-beyond s at (omega arith))
+rules-end (suc fuel) s at f other h = go (lineAt s at) refl (λ n. rules-end fuel s n f other)
+  where
+    go : (x : Line) → lineAt s at ≡ x → ((n : ℕ) → length s ≤ n + fuel → onRule (lineAt s (afterRules fuel s n)) f other ≡ other)
+        → onRule (lineAt s (onRule x (λ k m zones next. afterRules fuel s next) at)) f other ≡ other
+    go (RuleLine k m zones next) e ih =
+        let a = line-ahead (RuleLine k m zones next) (line-stands s at (RuleLine k m zones next) e tt) in
+        ih next (omega (arith, a))
+    go (Weights w next) e ih = rw e
+    go (Horizon x next) e ih = rw e
+    go (Chart x y next) e ih = rw e
+    go (Point x next) e ih = rw e
+    go Other e ih = rw e

@@ -1,0 +1,10 @@
+// Whole texts: what each program's text gives, or the refusal.
+mod monitors;
+mod point_lines;
+mod rule_lines;
+mod tables;
+
+pub use monitors::MonitorText;
+pub use monitors::monitor_text;
+pub use tables::TableText;
+pub use tables::table_text;

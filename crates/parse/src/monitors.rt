@@ -1,0 +1,76 @@
+// The monitor program's text: a chart line, rule lines, and point lines to the end.
+use crate::point_lines::read_points;
+use crate::rule_lines::BAD_LINE;
+use crate::rule_lines::MAX_TEXT;
+use crate::rule_lines::TOO_LONG;
+use crate::rule_lines::no_rules;
+use crate::rule_lines::read_rules;
+use rules::Refusal;
+use rules::RuleList;
+use text::Line;
+use text::read_line;
+ghost use mathlib.Core.Path.{_≡_};
+ghost use Rattle.rules.specs.Refusal.{refusal};
+ghost use Rattle.parse.specs.MonitorText.{refusedMonitor, monitorText};
+
+// What was read, with the number 0: the chart, the rules, the offset of the first point line and how many there are.
+// Or the refusal, and zeros and no rules.
+pub struct MonitorText {
+    pub refusal: Refusal,
+    pub centre: i32,
+    pub sigma: u32,
+    pub list: RuleList,
+    pub points: usize,
+    pub count: u32,
+}
+
+fn refused_monitor(number: u32, place: u32) -> MonitorText
+    ensures { λ r. ⌜ r ≡ refusedMonitor (refusal number place) ⌝ }
+{
+    MonitorText {
+        refusal: Refusal { number, place },
+        centre: 0,
+        sigma: 0,
+        list: no_rules(),
+        points: 0,
+        count: 0,
+    }
+}
+
+// The text read whole, every point line included: 17, then 16 at the first line that is not the one expected.
+pub fn monitor_text(text: &[u8]) -> MonitorText
+    ensures { λ r. ⌜ r ≡ monitorText (now (text .entry)) ⌝ }
+{
+    if text.len() > MAX_TEXT {
+        return refused_monitor(TOO_LONG, 0);
+    }
+    let Line::Chart {
+        centre,
+        sigma,
+        next,
+    } = read_line(text, 0)
+    else {
+        return refused_monitor(BAD_LINE, 1);
+    };
+    let read = read_rules(text, next, 2);
+    let list = read.list;
+    let points = read.next;
+    let line = read.line;
+    let found = read_points(text, points);
+    let count = found.count;
+    let end = found.next;
+    if end < text.len() {
+        return refused_monitor(BAD_LINE, line + count);
+    }
+    MonitorText {
+        refusal: Refusal {
+            number: 0,
+            place: 0,
+        },
+        centre,
+        sigma,
+        list,
+        points,
+        count,
+    }
+}

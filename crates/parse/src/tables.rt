@@ -1,0 +1,73 @@
+// The table program's text: a weights line, rule lines, a horizon line, and nothing more.
+use crate::rule_lines::BAD_LINE;
+use crate::rule_lines::MAX_TEXT;
+use crate::rule_lines::TOO_LONG;
+use crate::rule_lines::no_rules;
+use crate::rule_lines::read_rules;
+use rules::Refusal;
+use rules::RuleList;
+use rules::ZONES;
+use text::Line;
+use text::ZoneWeights;
+use text::read_line;
+ghost use mathlib.Core.Path.{_≡_};
+ghost use Rattle.rules.specs.Refusal.{refusal};
+ghost use Rattle.text.specs.Format.{weightList};
+ghost use Rattle.parse.specs.TableText.{refusedTable, tableText};
+
+// What was read, with the number 0; or the refusal, and no weights, no rules and no horizon.
+pub struct TableText {
+    pub refusal: Refusal,
+    pub weights: [u32; ZONES],
+    pub list: RuleList,
+    pub horizon: u32,
+}
+
+// The weights from zone 0 on.
+fn weight_array(w: ZoneWeights) -> [u32; ZONES]
+    ensures { λ r. ⌜ r ≡ weightList w ⌝ }
+{
+    [w.s, w.a1, w.b1, w.c1, w.c2, w.b2, w.a2]
+}
+
+fn refused_table(number: u32, place: u32) -> TableText
+    ensures { λ r. ⌜ r ≡ refusedTable (refusal number place) ⌝ }
+{
+    TableText {
+        refusal: Refusal { number, place },
+        weights: [0; ZONES],
+        list: no_rules(),
+        horizon: 0,
+    }
+}
+
+// The text read whole: 17, then 16 at the first line that is not the one expected.
+pub fn table_text(text: &[u8]) -> TableText
+    ensures { λ r. ⌜ r ≡ tableText (now (text .entry)) ⌝ }
+{
+    if text.len() > MAX_TEXT {
+        return refused_table(TOO_LONG, 0);
+    }
+    let Line::Weights { weights, next } = read_line(text, 0) else {
+        return refused_table(BAD_LINE, 1);
+    };
+    let read = read_rules(text, next, 2);
+    let list = read.list;
+    let at = read.next;
+    let line = read.line;
+    let Line::Horizon { horizon, next } = read_line(text, at) else {
+        return refused_table(BAD_LINE, line);
+    };
+    if next < text.len() {
+        return refused_table(BAD_LINE, line + 1);
+    }
+    TableText {
+        refusal: Refusal {
+            number: 0,
+            place: 0,
+        },
+        weights: weight_array(weights),
+        list,
+        horizon,
+    }
+}

@@ -1,0 +1,45 @@
+-- `print::put_refused` meets its contract: two fields, LF.
+use borrow.Author.Needs.{needs}
+use native.Mathlib.Omega.{arith}
+use Rattle.text.specs.WroteLaws.{then}
+use Rattle.print.specs.Refused.{refusedLine}
+use Rattle.print.proofs.refused.put_refused.Statement.{statement}
+use Rattle.print.proofs.refused.put_refused.Tie as tie
+
+slice-aggregate-put-named : tie.Need-slice-aggregate-put-named
+slice-aggregate-put-named c = search needs
+
+cast-put-named : tie.Need-cast-put-named
+cast-put-named c = search needs
+
+put-named-requires : tie.Need-put-named-requires
+put-named-requires c κs = search needs
+
+cast-put-field : tie.Need-cast-put-field
+cast-put-field c = search needs
+
+put-field-requires : tie.Need-put-field-requires
+put-field-requires c κs = search needs
+
+put-byte-requires : tie.Need-put-byte-requires
+put-byte-requires c κs = search needs
+
+same-length : tie.Need-same-length
+same-length c = search needs
+
+returns : tie.Need-returns
+unfolding refusedLine
+returns c = (search then, omega arith)
+
+pub put-refused-spec : {M : Type 1} → statement M
+put-refused-spec =
+    tie.close
+    (tie.spec
+    slice-aggregate-put-named
+    cast-put-named
+    put-named-requires
+    cast-put-field
+    put-field-requires
+    put-byte-requires
+    same-length
+    returns)

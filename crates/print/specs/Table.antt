@@ -1,0 +1,27 @@
+-- All that the table program prints. Definitions.
+use Prim.Native.Nat.{ℕ, _*_, _/_, _-_}
+use mathlib.Core.List.{List, _++_}
+use lib.ListN.{take}
+use Rattle.print.specs.Row.{standingsLine, headerLine, tableRows, arlLine}
+use Rattle.print.specs.Percentile.{percentLines}
+
+-- the error bound of the cut mean (document 01's allowed shortfall), in units: N × h × (h - 1) / 2
+unfoldable pub errorBoundOf : ℕ → ℕ → ℕ
+errorBoundOf states h = states * h * (h - 1) / 2
+
+-- N standings, h rows of the chances and of what is left, the mean's whole part and fraction, the five brackets of the h chances
+unfoldable pub tableBytes : ℕ → ℕ → List ℕ → List ℕ → ℕ → ℕ → List ℕ
+tableBytes states h pmf survival whole fraction =
+    standingsLine states
+    ++ headerLine
+    ++ tableRows h pmf survival
+    ++ arlLine whole fraction (errorBoundOf states h)
+    ++ percentLines (take h pmf) states
+
+-- the program's largest horizon
+abbrev pub maxRows : ℕ
+maxRows = 4096
+
+-- the most bytes: 84 for each row, and 512 for all other lines
+abbrev pub tableRoom : ℕ
+tableRoom = 344576

@@ -1,0 +1,15 @@
+// The lines that the two programs print, written into a lent buffer at an offset.
+// For the crates of this repository, which see to the room: hence each `requires`.
+mod brackets;
+mod field;
+mod monitor;
+mod refused;
+mod rows;
+mod table;
+
+pub use monitor::put_quiet;
+pub use monitor::put_signal;
+pub use monitor::put_total;
+pub use refused::put_refused;
+pub use table::TABLE_ROOM;
+pub use table::put_table;

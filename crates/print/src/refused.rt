@@ -1,0 +1,20 @@
+// The line of a refused text.
+use crate::field::put_field;
+use crate::field::put_named;
+use rules::Refusal;
+use text::put_byte;
+ghost use Prim.Native.Nat.{_+_, _≤_};
+ghost use lib.ListN.{length};
+ghost use Rattle.text.specs.Wrote.{Wrote};
+ghost use Rattle.print.specs.Refused.{refusedLine, refusedRoom};
+
+// The line `refused,number,place`.
+pub fn put_refused(out: &mut [u8], at: usize, refusal: Refusal) -> usize
+    requires { ⌜ at + refusedRoom ≤ length (now out) ⌝ }
+    ensures { λ r. ⌜ Wrote (now (out .entry)) at (now (out .exit)) r (refusedLine (refusal .number) (refusal .place)) ⌝ }
+    ensures { λ r. ⌜ r ≤ at + refusedRoom ⌝ }
+{
+    let a = put_named(out, at, b"refused", refusal.number as u64);
+    let b = put_field(out, a, refusal.place as u64);
+    put_byte(out, b, b'\n')
+}

@@ -1,0 +1,5 @@
+-- What the programs print, in terms of the text that they are given.
+pub mod Printed
+pub mod PrintedLaws
+pub mod TableReport
+pub mod TableReportLaws

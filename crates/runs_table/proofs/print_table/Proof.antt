@@ -1,0 +1,59 @@
+-- `runs_table::print_table` writes as many bytes as the report has.
+use native.Mathlib.Omega.{arith}
+use lib.ListN.{length-take}
+use Rattle.report.specs.PrintedLaws.{written-within}
+use Rattle.report.specs.TableReport.{tablePrinted}
+use borrow.Author.Needs.{needs}
+use Rattle.runs_table.proofs.print_table.Statement.{statement}
+use Rattle.runs_table.proofs.print_table.Tie as tie
+
+table-report-requires : tie.Need-table-report-requires
+table-report-requires c κs = search needs
+
+enum-known-n : tie.Need-enum-known-n
+enum-known-n c = search needs
+
+array-share-prefix-out : tie.Need-array-share-prefix-out
+array-share-prefix-out c =
+    let t = c .before .before .before in
+    let a = t .before .before .before .args in
+    written-within (tablePrinted (a .text .now)) _ _ _ _ (t .table-report .ensures) (c .before .n .given .1)
+
+slice-aggregate-write-all : tie.Need-slice-aggregate-write-all
+slice-aggregate-write-all c =
+    let t = c .before .before .before .before in
+    let a = t .before .before .before .args in
+    omega (
+      arith,
+      length-take (c .before .before .n .given .0 .0) (t .table-report .last .1 .0),
+      written-within (tablePrinted (a .text .now)) _ _ _ _ (t .table-report .ensures) (c .before .before .n .given .1),
+    )
+
+write-all-requires : tie.Need-write-all-requires
+write-all-requires c κs = search needs
+
+enum-known-r : tie.Need-enum-known-r
+enum-known-r c = search needs
+
+refused-requires : tie.Need-refused-requires
+refused-requires c κs = search needs
+
+returns : tie.Need-returns
+returns c = search needs
+
+returns-2 : tie.Need-returns-2
+returns-2 c = search needs
+
+pub print-table-spec : {M : Type 1} → statement M
+print-table-spec =
+    tie.close
+    (tie.spec
+    table-report-requires
+    enum-known-n
+    array-share-prefix-out
+    slice-aggregate-write-all
+    write-all-requires
+    enum-known-r
+    refused-requires
+    returns
+    returns-2)
