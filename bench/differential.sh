@@ -4,3 +4,4 @@ set -euo pipefail
 cd "$(dirname "$0")"
 (cd .. && rt staticlib capi >target/staticlib.log 2>&1) || { cat ../target/staticlib.log; exit 1; }
 cargo run --release --offline --quiet --bin differential
+cargo run --release --offline --quiet --bin texts

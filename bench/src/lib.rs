@@ -3,8 +3,10 @@
 pub mod bracket;
 pub mod chart;
 pub mod inputs;
+pub mod program;
 pub mod proved;
 pub mod table;
+pub mod texts;
 
 /// A refusal's number and place.
 #[derive(Clone, Copy, Debug, PartialEq, Eq)]

@@ -17,6 +17,8 @@ extern "C" {
     ) -> u64;
 
     fn catrovindy_bracket(pmf: *const u64, pmf_len: usize, state_count: u32, percent: u32, answer: *mut u32) -> u64;
+
+    fn catrovindy_table_report(text: *const u8, text_len: usize, out: *mut u8, count: *mut u64) -> u64;
 }
 
 /// Eight slots of k, m and Z; what does not fit is cut off, and the count still says how many rules there are.
@@ -89,4 +91,21 @@ pub fn bracket(chances: &[u64], n: u32, p: u32) -> Result<Bracket, Refusal> {
         4 => Bracket::Beyond(first),
         other => panic!("no such answer: {other}"),
     })
+}
+
+/// Room for the table program's lines at its largest horizon.
+pub const TABLE_REPORT_SIZE: usize = 84 * 4096 + 512;
+
+/// The lines of a text in the buffer, whose other places are kept: how many bytes they have, or the refusal.
+pub fn table_report(text: &[u8], out: &mut [u8; TABLE_REPORT_SIZE]) -> Result<usize, Refusal> {
+    let mut count = [77u64];
+    // The arrays have the sizes that the header gives, and the text comes with its length.
+    let code = unsafe { catrovindy_table_report(text.as_ptr(), text.len(), out.as_mut_ptr(), count.as_mut_ptr()) };
+    match refusal(code) {
+        Some(r) => {
+            assert_eq!(count, [77], "a refusal altered the count");
+            Err(r)
+        }
+        None => Ok(count[0] as usize),
+    }
 }

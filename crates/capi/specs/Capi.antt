@@ -2,7 +2,7 @@
 use Prim.Native.Nat.{ℕ, _+_, _*_, _^_}
 use mathlib.Core.Path.{_≡_}
 use mathlib.Core.List.{List, [], _∷_}
-use lib.ListN.{getD, set}
+use lib.ListN.{length, getD, set}
 use Rattle.rules.specs.declared.Rule.{Rule}
 use Rattle.rules.specs.declared.RuleList.{RuleList}
 use Rattle.rules.specs.declared.Refusal.{Refusal}
@@ -13,6 +13,7 @@ use Rattle.table.specs.Table.{tableOf}
 use Rattle.bracket.specs.declared.BracketAnswer.{BracketAnswer}
 use Rattle.bracket.specs.declared.BracketAnswer.the-variants.{At, Between, Open, Beyond}
 use Rattle.bracket.specs.Bracket.{bracketOf}
+use Rattle.report.specs.Printed.{Printed, lines, refusedBy, reportOf}
 
 -- slot i of a list of numbers: k, m and the zone set
 abbrev pub ruleAt : List ℕ → ℕ → Rule
@@ -70,3 +71,19 @@ bracketAfter (Beyond h) answer = written 4 h 0 answer
 pub record BracketCall (pmf : List ℕ) (states p : ℕ) (a a′ : List ℕ) (r : ℕ) : Type 0 where
   pub code : r ≡ bracketCode (bracketOf pmf states p)
   pub answer : a′ ≡ bracketAfter (bracketOf pmf states p) a
+
+-- ---- a program's report
+
+abbrev pub printedCode : Printed → ℕ
+printedCode (lines bytes) = 0
+printedCode (refusedBy x) = codeOf x
+
+-- what the count's array of one place then holds: how many bytes; a refusal leaves it as it was
+abbrev pub countAfter : Printed → List ℕ → List ℕ
+countAfter (lines bytes) count = set count 0 (length bytes)
+countAfter (refusedBy x) count = count
+
+pub record ReportCall (p : Printed) (out count out′ count′ : List ℕ) (r : ℕ) : Type 0 where
+  pub code : r ≡ printedCode p
+  pub buffer : out′ ≡ reportOf p out .buffer
+  pub bytes : count′ ≡ countAfter p count

@@ -1,8 +1,9 @@
 -- The exported calls, by the answer of the operation that they wrap.
-use mathlib.Core.Path.{_≡_, sym, ap, _∙_}
+use mathlib.Core.Path.{_≡_, refl, sym, ap, _∙_}
 use mathlib.Core.List.{List}
 use Prim.Native.Nat.{ℕ}
-use lib.ListN.{set}
+use native.Mathlib.Omega.{arith}
+use lib.ListN.{length, set}
 use Rattle.rules.specs.declared.RuleList.{RuleList}
 use Rattle.rules.specs.declared.Refusal.{Refusal}
 use Rattle.table.specs.declared.TableAnswer.{TableAnswer}
@@ -11,7 +12,10 @@ use Rattle.table.specs.declared.TableFigures.{TableFigures}
 use Rattle.table.specs.Table.{TableResult, tableResult, tableOf}
 use Rattle.bracket.specs.declared.BracketAnswer.{BracketAnswer}
 use Rattle.bracket.specs.Bracket.{bracketOf}
-use Rattle.capi.specs.Capi.{codeOf, tableCode, figuresAfter, TableCall, bracketCode, bracketAfter, BracketCall}
+use Rattle.report.specs.declared.ReportAnswer.{ReportAnswer}
+use Rattle.report.specs.declared.ReportAnswer.the-variants.{Written}
+use Rattle.report.specs.Printed.{Printed, lines, refusedBy, Report, report, reportOf}
+use Rattle.capi.specs.Capi.{codeOf, tableCode, figuresAfter, TableCall, bracketCode, bracketAfter, BracketCall, printedCode, countAfter, ReportCall}
 
 -- m is the list that the call made of the slots, and a the table's answer
 module _ (l m : RuleList) (w : List ℕ) (h : ℕ) (p s f p′ s′ : List ℕ) (a : TableAnswer) (made : m ≡ l) (table : tableResult a p′ s′ ≡ tableOf m w h p s) where
@@ -45,3 +49,26 @@ pub bracket-call : (pmf : List ℕ) (states p : ℕ) (a a′ : List ℕ) (r : �
 bracket-call pmf states p a a′ r b x e q code answer =
     let t : bracketOf pmf states p ≡ x = sym e ∙ q in
     record { code = code ∙ sym (ap bracketCode t); answer = answer ∙ sym (ap (λ (y : BracketAnswer). bracketAfter y a) t) }
+
+-- a is the report's answer
+pub report-written : (p : Printed) (out count out′ : List ℕ) (a : ReportAnswer) (n : ℕ) → report a out′ ≡ reportOf p out → a ≡ Written n
+    → ReportCall p out count out′ (set count 0 n) 0
+report-written (lines bytes) out count out′ a n e q =
+    let answer : a ≡ Written (length bytes) = ap (λ (r : Report). r .answer) e in
+    let m : n ≡ length bytes = cc in
+    record { code = refl; buffer = ap (λ (r : Report). r .buffer) e; bytes = ap (λ (k : ℕ). set count 0 k) m }
+report-written (refusedBy x) out count out′ a n e q =
+    let answer : a ≡ ReportAnswer.Refused x = ap (λ (r : Report). r .answer) e in
+    let z : _≡_ {A = ℕ} 0 1 = cc in
+    absurd (omega arith)
+
+pub report-refused : (p : Printed) (out count out′ : List ℕ) (a : ReportAnswer) (x : Refusal) (r : ℕ) → report a out′ ≡ reportOf p out
+    → a ≡ ReportAnswer.Refused x → r ≡ codeOf x → ReportCall p out count out′ count r
+report-refused (lines bytes) out count out′ a x r e q c =
+    let answer : a ≡ Written (length bytes) = ap (λ (r : Report). r .answer) e in
+    let z : _≡_ {A = ℕ} 0 1 = cc in
+    absurd (omega arith)
+report-refused (refusedBy y) out count out′ a x r e q c =
+    let answer : a ≡ ReportAnswer.Refused y = ap (λ (r : Report). r .answer) e in
+    let m : x ≡ y = cc in
+    record { code = c ∙ ap codeOf m; buffer = ap (λ (r : Report). r .buffer) e; bytes = refl }

@@ -1,5 +1,6 @@
 // The exported functions, for callers in C and Rust: numbers, fixed-size arrays and slices.
 use bracket::BracketAnswer;
+use report::ReportAnswer;
 use rules::Refusal;
 use rules::Rule;
 use rules::RuleList;
@@ -9,7 +10,8 @@ ghost use mathlib.Core.Path.{_≡_};
 ghost use lib.ListN.{getD};
 ghost use Prim.Native.Nat.{_+_, _*_, _<_};
 ghost use Rattle.rules.specs.Bounds.{maxRules};
-ghost use Rattle.capi.specs.Capi.{ruleAt, listOf, codeOf, TableCall, written, BracketCall};
+ghost use Rattle.capi.specs.Capi.{ruleAt, listOf, codeOf, TableCall, written, BracketCall, ReportCall};
+ghost use Rattle.report.specs.TableReport.{tablePrinted};
 
 // The numbers of a rule list: k, m and the zone set of each of its slots.
 const SLOT_NUMBERS: usize = 3 * (RuleList::MAX_RULES as usize);
@@ -112,6 +114,26 @@ pub extern "C" fn catrovindy_bracket(
         }
         BracketAnswer::Beyond(length) => {
             write_answer(answer, 4, length, 0);
+            0
+        }
+    }
+}
+
+// The table program's lines for a text: `report::table_report`. Answers 0, with the lines in `out` and their number of bytes in `count`; or
+// answers the refusal and alters nothing.
+#[no_mangle]
+pub extern "C" fn catrovindy_table_report(
+    text: &[u8],
+    out: &mut [u8; ReportAnswer::TABLE_SIZE],
+    count: &mut [u64; 1],
+) -> u64
+    ensures { λ r. ⌜ ReportCall (tablePrinted (now (text .entry))) (now (out .entry)) (now (count .entry)) (now (out .exit)) (now (count .exit)) r ⌝ }
+{
+    let answer = report::table_report(text, out);
+    match answer {
+        ReportAnswer::Refused(r) => code(r),
+        ReportAnswer::Written(n) => {
+            count[0] = n as u64;
             0
         }
     }

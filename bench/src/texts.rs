@@ -1,0 +1,56 @@
+//! Texts for the table program: as a planner writes them, and damaged.
+use crate::inputs::Source;
+
+impl Source {
+    /// A text that is mostly accepted, with a short horizon.
+    pub fn table_text(&mut self) -> Vec<u8> {
+        let weights = self.weights().map(|w| w.to_string()).join(",");
+        let mut text = format!("weights,{weights}\n");
+        let count = match self.below(40) {
+            0 => 0,
+            1 => 8,
+            2 => 9,
+            3 => 40,
+            n => 1 + n % 3,
+        };
+        for _ in 0..count {
+            let longest = if count > 3 { 2 } else { 4 };
+            let r = self.rule(longest);
+            text += &format!("rule,{},{},{}\n", r.k, r.m, r.z);
+        }
+        let horizon = match self.below(30) {
+            0 => 0,
+            1 => 4_096,
+            2 => 4_097,
+            3 => u32::MAX,
+            n => n as u32,
+        };
+        text += &format!("horizon,{horizon}\n");
+        text.into_bytes()
+    }
+
+    /// One wrong thing, or more.
+    pub fn damage(&mut self, text: &mut Vec<u8>) {
+        let pieces: [&[u8]; 16] =
+            [b"0", b"-", b"+", b",", b"\n", b"\r", b"\0", b" ", b"00", b"-0", b"4294967295", b"4294967296", b"rule,1,1,1\n", b"horizon,2\n", b"point,1\n", b"\n\n"];
+        for _ in 0..1 + self.below(2) {
+            let at = self.below(text.len() as u64 + 1) as usize;
+            match self.below(6) {
+                0 => text.truncate(at),
+                1 if at < text.len() => {
+                    text.remove(at);
+                }
+                2 if at < text.len() => text[at] = self.next() as u8,
+                3 => {
+                    let end = (at + self.below(12) as usize).min(text.len());
+                    text.drain(at..end);
+                }
+                4 if self.once_in(200) => text.resize([65_536, 65_537, 70_000][self.below(3) as usize], b'\n'),
+                _ => {
+                    let piece = pieces[self.below(16) as usize];
+                    text.splice(at..at, piece.iter().copied());
+                }
+            }
+        }
+    }
+}
