@@ -13,6 +13,8 @@ use Rattle.table.specs.Table.{tableOf}
 use Rattle.bracket.specs.declared.BracketAnswer.{BracketAnswer}
 use Rattle.bracket.specs.declared.BracketAnswer.the-variants.{At, Between, Open, Beyond}
 use Rattle.bracket.specs.Bracket.{bracketOf}
+use Rattle.report.specs.declared.ReportAnswer.{ReportAnswer}
+use Rattle.report.specs.declared.ReportAnswer.the-variants.{Written}
 use Rattle.report.specs.Printed.{Printed, lines, refusedBy, reportOf}
 
 -- slot i of a list of numbers: k, m and the zone set
@@ -73,6 +75,15 @@ pub record BracketCall (pmf : List ℕ) (states p : ℕ) (a a′ : List ℕ) (r 
   pub answer : a′ ≡ bracketAfter (bracketOf pmf states p) a
 
 -- ---- a program's report
+
+-- the code of a report's answer, and what the count's array of one place then holds
+abbrev pub answerCode : ReportAnswer → ℕ
+answerCode (Written n) = 0
+answerCode (ReportAnswer.Refused x) = codeOf x
+
+abbrev pub answerCount : ReportAnswer → List ℕ → List ℕ
+answerCount (Written n) count = set count 0 n
+answerCount (ReportAnswer.Refused x) count = count
 
 abbrev pub printedCode : Printed → ℕ
 printedCode (lines bytes) = 0

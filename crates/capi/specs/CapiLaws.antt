@@ -15,7 +15,7 @@ use Rattle.bracket.specs.Bracket.{bracketOf}
 use Rattle.report.specs.declared.ReportAnswer.{ReportAnswer}
 use Rattle.report.specs.declared.ReportAnswer.the-variants.{Written}
 use Rattle.report.specs.Printed.{Printed, lines, refusedBy, Report, report, reportOf}
-use Rattle.capi.specs.Capi.{codeOf, tableCode, figuresAfter, TableCall, bracketCode, bracketAfter, BracketCall, printedCode, countAfter, ReportCall}
+use Rattle.capi.specs.Capi.{codeOf, tableCode, figuresAfter, TableCall, bracketCode, bracketAfter, BracketCall, answerCode, answerCount, printedCode, countAfter, ReportCall}
 
 -- m is the list that the call made of the slots, and a the table's answer
 module _ (l m : RuleList) (w : List ℕ) (h : ℕ) (p s f p′ s′ : List ℕ) (a : TableAnswer) (made : m ≡ l) (table : tableResult a p′ s′ ≡ tableOf m w h p s) where
@@ -51,24 +51,18 @@ bracket-call pmf states p a a′ r b x e q code answer =
     record { code = code ∙ sym (ap bracketCode t); answer = answer ∙ sym (ap (λ (y : BracketAnswer). bracketAfter y a) t) }
 
 -- a is the report's answer
-pub report-written : (p : Printed) (out count out′ : List ℕ) (a : ReportAnswer) (n : ℕ) → report a out′ ≡ reportOf p out → a ≡ Written n
-    → ReportCall p out count out′ (set count 0 n) 0
-report-written (lines bytes) out count out′ a n e q =
-    let answer : a ≡ Written (length bytes) = ap (λ (r : Report). r .answer) e in
-    let m : n ≡ length bytes = cc in
-    record { code = refl; buffer = ap (λ (r : Report). r .buffer) e; bytes = ap (λ (k : ℕ). set count 0 k) m }
-report-written (refusedBy x) out count out′ a n e q =
-    let answer : a ≡ ReportAnswer.Refused x = ap (λ (r : Report). r .answer) e in
-    let z : _≡_ {A = ℕ} 0 1 = cc in
-    absurd (omega arith)
+pub report-call : (p : Printed) (out count out′ count′ : List ℕ) (a : ReportAnswer) (r : ℕ) → report a out′ ≡ reportOf p out
+    → r ≡ answerCode a → count′ ≡ answerCount a count → ReportCall p out count out′ count′ r
+report-call (lines bytes) out count out′ count′ a r e code after =
+    let answer : a ≡ Written (length bytes) = ap (λ (x : Report). x .answer) e in
+    record { code = code ∙ ap answerCode answer; buffer = ap (λ (x : Report). x .buffer) e; bytes = after ∙ ap (λ (x : ReportAnswer). answerCount x count) answer }
+report-call (refusedBy y) out count out′ count′ a r e code after =
+    let answer : a ≡ ReportAnswer.Refused y = ap (λ (x : Report). x .answer) e in
+    record { code = code ∙ ap answerCode answer; buffer = ap (λ (x : Report). x .buffer) e; bytes = after ∙ ap (λ (x : ReportAnswer). answerCount x count) answer }
 
-pub report-refused : (p : Printed) (out count out′ : List ℕ) (a : ReportAnswer) (x : Refusal) (r : ℕ) → report a out′ ≡ reportOf p out
-    → a ≡ ReportAnswer.Refused x → r ≡ codeOf x → ReportCall p out count out′ count r
-report-refused (lines bytes) out count out′ a x r e q c =
-    let answer : a ≡ Written (length bytes) = ap (λ (r : Report). r .answer) e in
-    let z : _≡_ {A = ℕ} 0 1 = cc in
-    absurd (omega arith)
-report-refused (refusedBy y) out count out′ a x r e q c =
-    let answer : a ≡ ReportAnswer.Refused y = ap (λ (r : Report). r .answer) e in
-    let m : x ≡ y = cc in
-    record { code = c ∙ ap codeOf m; buffer = ap (λ (r : Report). r .buffer) e; bytes = refl }
+-- the answer, case by case
+pub written-code : (a : ReportAnswer) (n : ℕ) (count : List ℕ) → a ≡ Written n → (0 ≡ answerCode a) × (set count 0 n ≡ answerCount a count)
+written-code a n count e = (sym (ap answerCode e), sym (ap (λ (x : ReportAnswer). answerCount x count) e))
+
+pub refused-code : (a : ReportAnswer) (x : Refusal) (r : ℕ) (count : List ℕ) → a ≡ ReportAnswer.Refused x → r ≡ codeOf x → (r ≡ answerCode a) × (count ≡ answerCount a count)
+refused-code a x r count e c = (c ∙ sym (ap answerCode e), sym (ap (λ (y : ReportAnswer). answerCount y count) e))

@@ -10,8 +10,9 @@ ghost use mathlib.Core.Path.{_≡_};
 ghost use lib.ListN.{getD};
 ghost use Prim.Native.Nat.{_+_, _*_, _<_};
 ghost use Rattle.rules.specs.Bounds.{maxRules};
-ghost use Rattle.capi.specs.Capi.{ruleAt, listOf, codeOf, TableCall, written, BracketCall, ReportCall};
+ghost use Rattle.capi.specs.Capi.{ruleAt, listOf, codeOf, TableCall, written, BracketCall, ReportCall, answerCode, answerCount};
 ghost use Rattle.report.specs.TableReport.{tablePrinted};
+ghost use Rattle.report.specs.MonitorReport.{monitorPrinted};
 
 // The numbers of a rule list: k, m and the zone set of each of its slots.
 const SLOT_NUMBERS: usize = 3 * (RuleList::MAX_RULES as usize);
@@ -119,6 +120,19 @@ pub extern "C" fn catrovindy_bracket(
     }
 }
 
+// The code of a report's answer, and its number of bytes in `count`.
+fn report_code(answer: ReportAnswer, count: &mut [u64; 1]) -> u64
+    ensures { λ r. ⌜ (r ≡ answerCode answer) × (now (count .exit) ≡ answerCount answer (now (count .entry))) ⌝ }
+{
+    match answer {
+        ReportAnswer::Refused(r) => code(r),
+        ReportAnswer::Written(n) => {
+            count[0] = n as u64;
+            0
+        }
+    }
+}
+
 // The table program's lines for a text: `report::table_report`. Answers 0, with the lines in `out` and their number of bytes in `count`; or
 // answers the refusal and alters nothing.
 #[no_mangle]
@@ -130,11 +144,19 @@ pub extern "C" fn catrovindy_table_report(
     ensures { λ r. ⌜ ReportCall (tablePrinted (now (text .entry))) (now (out .entry)) (now (count .entry)) (now (out .exit)) (now (count .exit)) r ⌝ }
 {
     let answer = report::table_report(text, out);
-    match answer {
-        ReportAnswer::Refused(r) => code(r),
-        ReportAnswer::Written(n) => {
-            count[0] = n as u64;
-            0
-        }
-    }
+    report_code(answer, count)
+}
+
+// The monitor program's lines for a text: `report::monitor_report`. Answers 0, with the lines in `out` and their number of bytes in `count`;
+// or answers the refusal and alters nothing.
+#[no_mangle]
+pub extern "C" fn catrovindy_monitor_report(
+    text: &[u8],
+    out: &mut [u8; ReportAnswer::MONITOR_SIZE],
+    count: &mut [u64; 1],
+) -> u64
+    ensures { λ r. ⌜ ReportCall (monitorPrinted (now (text .entry))) (now (out .entry)) (now (count .entry)) (now (out .exit)) (now (count .exit)) r ⌝ }
+{
+    let answer = report::monitor_report(text, out);
+    report_code(answer, count)
 }

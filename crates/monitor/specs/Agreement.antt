@@ -27,7 +27,7 @@ use Rattle.monitor.specs.RowLaws.{empty-row-mask}
 -- ---- agreement
 
 module _ (l : RuleList) (a : checkOf l ≡ Accepted) where
-  rules-accepted : (m : Monitor) (z : ℕ) → stepOf l m z ≡ acceptedStep (activeRules l) m z
+  pub rules-accepted : (m : Monitor) (z : ℕ) → stepOf l m z ≡ acceptedStep (activeRules l) m z
   unfolding stepOf
   rules-accepted m z = rw a
 

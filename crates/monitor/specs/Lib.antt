@@ -7,9 +7,11 @@ pub mod ForgetLaws
 pub mod ValidLaws
 pub mod StateLaws
 pub mod Step
-pub mod StepLaws
 pub mod ReferenceChart
+pub mod Take
+pub mod StepLaws
 pub mod Calls
 pub mod RowLaws
 pub mod CallLaws
 pub mod Agreement
+pub mod TakeLaws

@@ -76,7 +76,7 @@ same-test k h g f q e =
     (λ (p : h + f < k). lt-leb k (h + g) (omega arith) ∙ sym (lt-leb k (h + f) p))
     (le-or-lt k (h + f))
 
-young : (w n : ℕ) → w < 2 ^ n → w < windowBase → w / 2 ^ min n maxAge ≡ 0
+pub young : (w n : ℕ) → w < 2 ^ n → w < windowBase → w / 2 ^ min n maxAge ≡ 0
 young w n h q =
     ⊎-elim
     (λ (p : n ≤ maxAge). let e : min n maxAge ≡ n = omega arith in rw e (div-eq-of-lt h))
@@ -127,13 +127,13 @@ module _ (r : Rule) (bounds : InBounds r) (row : List ℕ) where
 
 -- ---- all rules
 
-digit : (w x : ℕ) → w < windowBase → (w + windowBase * x) % windowBase ≡ w
+pub digit : (w x : ℕ) → w < windowBase → (w + windowBase * x) % windowBase ≡ w
 digit w x h = omega arith
 
-digits : (w x : ℕ) → w < windowBase → (w + windowBase * x) / windowBase ≡ x
+pub digits : (w x : ℕ) → w < windowBase → (w + windowBase * x) / windowBase ≡ x
 digits w x h = omega arith
 
-bit-zero : (t : Bool) (x : ℕ) → bit t + 2 * x ≡ 0 → (t ≡ false) × (x ≡ 0)
+pub bit-zero : (t : Bool) (x : ℕ) → bit t + 2 * x ≡ 0 → (t ≡ false) × (x ≡ 0)
 bit-zero true x e = absurd (omega arith)
 bit-zero false x e = (refl, omega arith)
 

@@ -13,6 +13,8 @@ use Rattle.monitor.specs.declared.Step.{Step}
 use Rattle.monitor.specs.declared.Step.the-variants.{Refused}
 use Rattle.monitor.specs.State.{validState, stateMask, nextState, moveOf}
 use Rattle.monitor.specs.Step.{maxCount, monitorAt, freshMonitor, answerBy, acceptedStep}
+use Rattle.monitor.specs.Take.{takenOf}
+use Rattle.monitor.specs.declared.Taken.{Taken}
 
 -- ---- the move
 
@@ -51,3 +53,14 @@ module _ (rs : List Rule) (m : Monitor) (z : ℕ) (zone : z < zoneCount) where
 
     pub step-quiet : m .count < maxCount → stateMask rs (m .state) z ≡ 0 → acceptedStep rs m z ≡ Step.Quiet (m .count + 1) (monitorAt (nextState rs (m .state) z) (m .count + 1))
     step-quiet h e = step-move h ∙ rw (move-quiet rs (m .state) z e)
+
+-- ---- a point where nothing can be refused
+
+module _ (rs : List Rule) (m : Monitor) (z : ℕ) where
+  pub take-signal : (stateMask rs (m .state) z ≡ 0 → ⊥) → takenOf rs m z ≡ record { mask = stateMask rs (m .state) z; next = freshMonitor }
+  unfolding takenOf
+  take-signal e = rw (ne-eqb (stateMask rs (m .state) z) 0 e)
+
+  pub take-quiet : stateMask rs (m .state) z ≡ 0 → takenOf rs m z ≡ record { mask = 0; next = monitorAt (nextState rs (m .state) z) (m .count + 1) }
+  unfolding takenOf
+  take-quiet e = rw e

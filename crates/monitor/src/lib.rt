@@ -9,7 +9,8 @@ ghost use Rattle.rules.specs.Bounds.{zoneCount, maxRules};
 ghost use Rattle.rules.specs.Check.{activeRules};
 ghost use Rattle.rules.specs.InBounds.{AllInBounds};
 ghost use Rattle.monitor.specs.State.{moveOf};
-ghost use Rattle.monitor.specs.Step.{acceptedStep, freshMonitor, stepOf};
+ghost use Rattle.monitor.specs.Step.{maxCount, acceptedStep, freshMonitor, stepOf};
+ghost use Rattle.monitor.specs.Take.{takenOf};
 
 mod state;
 mod window;
@@ -34,6 +35,12 @@ pub enum Step {
         mask: u32,
         next: Monitor,
     },
+}
+
+// What a point does where nothing is refused: the mask of all rules that hold, 0 for quiet, and the monitor for the next point.
+pub struct Taken {
+    pub mask: u32,
+    pub next: Monitor,
 }
 
 // What a point does to a state, whatever the count.
@@ -63,6 +70,28 @@ impl Monitor {
         ensures { λ r. ⌜ r ≡ freshMonitor ⌝ }
     {
         Monitor { state: 0, count: 0 }
+    }
+
+    // One point, for rules that are accepted, a zone that exists and a count that is not full.
+    pub fn take(self, list: RuleList, zone: u32) -> Taken
+        requires { ⌜ (list .len ≤ maxRules) × AllInBounds (activeRules list) × (zone < zoneCount) × (self .count < maxCount) ⌝ }
+        ensures { λ r. ⌜ r ≡ takenOf (activeRules list) self zone ⌝ }
+    {
+        let state = self.state;
+        let points = self.count;
+        let mask = state::mask(list, 0, state, zone);
+        if mask != 0 {
+            return Taken {
+                mask,
+                next: Monitor { state: 0, count: 0 },
+            };
+        }
+        let next = state::next_state(list, 0, state, zone);
+        let count = points + 1;
+        Taken {
+            mask,
+            next: Monitor { state: next, count },
+        }
     }
 
     // A step with rules that are accepted: 6, 5, 7, or the answer.

@@ -3,3 +3,7 @@ pub mod Printed
 pub mod PrintedLaws
 pub mod TableReport
 pub mod TableReportLaws
+pub mod Points
+pub mod PointsLaws
+pub mod MonitorReport
+pub mod MonitorReportLaws

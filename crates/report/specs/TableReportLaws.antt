@@ -30,9 +30,9 @@ use Rattle.text.specs.Wrote.{Wrote}
 use Rattle.parse.specs.declared.tables.TableText.{TableText}
 use Rattle.parse.specs.TableText.{tableText}
 use Rattle.print.specs.Table.{tableBytes, maxRows}
-use Rattle.report.specs.declared.ReportAnswer.{ReportAnswer}
 use Rattle.report.specs.declared.ReportAnswer.the-variants.{Written, Refused}
-use Rattle.report.specs.Printed.{Printed, lines, refusedBy, Report, report, reportOf}
+use Rattle.report.specs.Printed.{report, reportOf}
+use Rattle.report.specs.PrintedLaws.{as-refused, as-written}
 use Rattle.report.specs.TableReport.{reportHorizon, linesOf, blank, tablePrinted}
 
 -- ---- lists written from the front
@@ -104,17 +104,9 @@ module _ (s out : List ℕ) (t : TableText) (is : t ≡ tableText s) where
     printed = rw (← is, eq-eqb (t .refusal .number) 0 read, ← horizon, ← table)
 
     pub table-refused : (x : Refusal) → a ≡ TableAnswer.Refused x → report (Refused x) out ≡ reportOf (tablePrinted s) out
-    table-refused x e =
-        let q : tablePrinted s ≡ refusedBy x = printed ∙ ap (λ (y : TableAnswer). linesOf (tableResult y p′ s′) h) e in
-        sym (ap (λ (y : Printed). reportOf y out) q)
+    table-refused x e = as-refused x out (printed ∙ ap (λ (y : TableAnswer). linesOf (tableResult y p′ s′) h) e)
 
     pub table-written : (f : TableFigures) → a ≡ TableAnswer.Accepted f → (out′ : List ℕ) (r : ℕ)
         → Wrote out 0 out′ r (tableBytes (f .states) h p′ s′ (f .«mean_whole») (f .«mean_fraction»))
         → report (Written r) out′ ≡ reportOf (tablePrinted s) out
-    table-written f e out′ r w =
-        let bytes : List ℕ = tableBytes (f .states) h p′ s′ (f .«mean_whole») (f .«mean_fraction») in
-        let q : tablePrinted s ≡ lines bytes = printed ∙ ap (λ (y : TableAnswer). linesOf (tableResult y p′ s′) h) e in
-        let n : 0 + length bytes ≡ length bytes = omega arith in
-        ap (λ (x : ℕ). report (Written x) out′) (w .end ∙ n)
-        ∙ ap (λ (y : List ℕ). report (Written (length bytes)) y) (w .whole ∙ ap (λ (k : ℕ). bytes ++ drop k out) n)
-        ∙ sym (ap (λ (y : Printed). reportOf y out) q)
+    table-written f e out′ r w = as-written out out′ r (printed ∙ ap (λ (y : TableAnswer). linesOf (tableResult y p′ s′) h) e) w

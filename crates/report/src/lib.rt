@@ -1,4 +1,8 @@
 // Text in, text out: what each program prints for a text.
+mod monitors;
+mod points;
+
+pub use monitors::monitor_report;
 use rules::Refusal;
 use table::TableAnswer;
 ghost use mathlib.Core.Path.{_≡_};
@@ -17,6 +21,12 @@ impl ReportAnswer {
 
     // Room for the table program's lines at the largest horizon: 84 bytes for each row, and 512 for all other lines.
     pub const TABLE_SIZE: usize = 84 * (ReportAnswer::MAX_ROWS as usize) + 512;
+
+    // The most points that a text can have: a text has at most 65,536 bytes, and a point line at least 8.
+    pub const MAX_POINTS: u32 = 8192;
+
+    // Room for the monitor program's lines: 49 bytes for each point, and 48 for the total.
+    pub const MONITOR_SIZE: usize = 49 * (ReportAnswer::MAX_POINTS as usize) + 48;
 }
 
 // A horizon over the largest is refused as 0 is.

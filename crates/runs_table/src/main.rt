@@ -1,25 +1,16 @@
 // The table program: a text on standard input, its run-length table on standard output.
 use libc::STDIN_FILENO;
-use libc::STDOUT_FILENO;
 use report::ReportAnswer;
-use rules::Refusal;
-
-// The line of a refused text.
-fn refused(r: Refusal) {
-    let mut line = [0u8; 64];
-    let n = print::put_refused(&mut line, 0, r);
-    io::write_all(STDOUT_FILENO, &line[..n]);
-}
 
 // What the program prints for a text.
 fn print_table(text: &[u8]) {
     let mut out = [0u8; ReportAnswer::TABLE_SIZE];
     match report::table_report(text, &mut out) {
         ReportAnswer::Written(n) => {
-            io::write_all(STDOUT_FILENO, &out[..n]);
+            output::lines(&out[..n]);
         }
         ReportAnswer::Refused(r) => {
-            refused(r);
+            output::refused(r);
         }
     }
 }

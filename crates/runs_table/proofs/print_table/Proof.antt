@@ -19,8 +19,8 @@ array-share-prefix-out c =
     let a = t .before .before .before .args in
     written-within (tablePrinted (a .text .now)) _ _ _ _ (t .table-report .ensures) (c .before .n .given .1)
 
-slice-aggregate-write-all : tie.Need-slice-aggregate-write-all
-slice-aggregate-write-all c =
+slice-aggregate-lines : tie.Need-slice-aggregate-lines
+slice-aggregate-lines c =
     let t = c .before .before .before .before in
     let a = t .before .before .before .args in
     omega (
@@ -29,8 +29,8 @@ slice-aggregate-write-all c =
       written-within (tablePrinted (a .text .now)) _ _ _ _ (t .table-report .ensures) (c .before .before .n .given .1),
     )
 
-write-all-requires : tie.Need-write-all-requires
-write-all-requires c κs = search needs
+lines-requires : tie.Need-lines-requires
+lines-requires c κs = search needs
 
 enum-known-r : tie.Need-enum-known-r
 enum-known-r c = search needs
@@ -51,8 +51,8 @@ print-table-spec =
     table-report-requires
     enum-known-n
     array-share-prefix-out
-    slice-aggregate-write-all
-    write-all-requires
+    slice-aggregate-lines
+    lines-requires
     enum-known-r
     refused-requires
     returns

@@ -1,11 +1,11 @@
--- `runs_table::refused` writes as many bytes as the line has.
+-- `output::refused` writes as many bytes as the line has.
 use mathlib.Core.Path.{_≡_}
 use native.Mathlib.Omega.{arith}
 use lib.ListN.{length, length-take}
 use Rattle.text.specs.WroteLaws.{wrote-length}
 use borrow.Author.Needs.{needs}
-use Rattle.runs_table.proofs.refused.Statement.{statement}
-use Rattle.runs_table.proofs.refused.Tie as tie
+use Rattle.output.proofs.refused.Statement.{statement}
+use Rattle.output.proofs.refused.Tie as tie
 
 slice-aggregate-put-refused : tie.Need-slice-aggregate-put-refused
 slice-aggregate-put-refused c = search needs
@@ -16,13 +16,13 @@ put-refused-requires c κs = search needs
 array-share-prefix-line : tie.Need-array-share-prefix-line
 array-share-prefix-line c = search needs
 
-slice-aggregate-write-all : tie.Need-slice-aggregate-write-all
-slice-aggregate-write-all c =
+slice-aggregate-lines : tie.Need-slice-aggregate-lines
+slice-aggregate-lines c =
     let w = c .before .before .put-refused in
     omega (arith, length-take (w .result) (w .last .0), wrote-length (w .ensures .0), w .ensures .0 .fits)
 
-write-all-requires : tie.Need-write-all-requires
-write-all-requires c κs = search needs
+lines-requires : tie.Need-lines-requires
+lines-requires c κs = search needs
 
 returns : tie.Need-returns
 returns c = search needs
@@ -34,6 +34,6 @@ refused-spec =
     slice-aggregate-put-refused
     put-refused-requires
     array-share-prefix-line
-    slice-aggregate-write-all
-    write-all-requires
+    slice-aggregate-lines
+    lines-requires
     returns)

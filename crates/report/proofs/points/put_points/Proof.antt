@@ -1,0 +1,112 @@
+-- `points::put_points` meets its contract. The invariant: the points charted and written, and what is left to read.
+use Prim.Native.Nat.{_-_}
+use mathlib.Core.Path.{_≡_, sym, ap, _∙_}
+use lib.IntN.{ℤ, _-ℤ_}
+use mir.Val.{toZ, ofZ}
+use mir.Syntax.{w32}
+use native.Mathlib.Omega.{arith}
+use lib.ListN.{length}
+use borrow.Author.Needs.{needs}
+use Rattle.rules.specs.Check.{activeRules}
+use Rattle.monitor.specs.Zone.{zoneAt}
+use Rattle.report.specs.PointsLaws.{Charted, signal-le, charted-start, point-ahead, points-left, charted-more, charted-done}
+use Rattle.report.proofs.points.put_points.Statement.{statement}
+use Rattle.report.proofs.points.put_points.Tie as tie
+
+abbrev Inv-loop : tie.InvT-loop
+Inv-loop out₀ text at list chart monitor₀ i₀ end₀ points₀ signals₀ out monitor i end points signals =
+    Charted text at (activeRules list) (chart .centre) (chart .sigma) out₀ out i end points signals monitor
+
+abbrev μ-loop : tie.MeasureT-loop
+μ-loop out₀ text at list chart monitor₀ i₀ end₀ points₀ signals₀ out monitor i end points signals = length text - i
+
+fresh-requires : tie.Need-fresh-requires Inv-loop μ-loop
+fresh-requires c κs = search needs
+
+loop-holds : tie.Need-loop-holds Inv-loop μ-loop
+loop-holds c = rw (c .fresh .ensures) charted-start
+
+read-line-requires : tie.Need-read-line-requires Inv-loop μ-loop
+read-line-requires c κs = search needs
+
+enum-known-reading : tie.Need-enum-known-reading Inv-loop μ-loop
+enum-known-reading c = search needs
+
+put-total-requires : tie.Need-put-total-requires Inv-loop μ-loop
+put-total-requires c κs = search needs
+
+same-length : tie.Need-same-length Inv-loop μ-loop
+same-length c = search needs
+
+returns : tie.Need-returns Inv-loop μ-loop
+returns c =
+    let t = c .before .before in
+    let k = t .before .before .before in
+    charted-done (k .before .loop .inv) _ (k .read-line .ensures) (t .before .before .match .keys2) _ (t .put-total .ensures .0)
+
+zone-on-requires : tie.Need-zone-on-requires Inv-loop μ-loop
+zone-on-requires c κs = search needs
+
+add-count : tie.Need-add-count Inv-loop μ-loop
+add-count c = search needs
+
+take-requires : tie.Need-take-requires Inv-loop μ-loop
+take-requires c κs = search needs
+
+put-answer-requires : tie.Need-put-answer-requires Inv-loop μ-loop
+put-answer-requires c κs =
+    let k = c .before .before .before .before .before in
+    let l = points-left (k .before .before .before .loop .inv) _ _ (sym (k .before .before .read-line .ensures) ∙ k .reading .given .1) in
+    omega (arith, l, k .before .before .before .loop .inv .room, k .before .before .before .loop .inv .size)
+
+one-signal-requires : tie.Need-one-signal-requires Inv-loop μ-loop
+one-signal-requires c κs = search needs
+
+add-signals : tie.Need-add-signals Inv-loop μ-loop
+add-signals c =
+    let u = c .before .before .before .before .before .before .before .before .before .before .before .before .loop .inv in
+    omega (arith, u .signalled, u .fit, c .one-signal .ensures, signal-le (c .before .before .before .before .before .take .result .mask))
+
+add-points : tie.Need-add-points Inv-loop μ-loop
+add-points c = search needs
+
+loop-less : tie.Need-loop-less Inv-loop μ-loop
+loop-less c =
+    let k = c .before .before .before .before .before .before .before .before .before .before in
+    let a = point-ahead _ _ _ _ (sym (k .before .before .read-line .ensures) ∙ k .reading .given .1) in
+    omega (arith, a)
+
+loop-again : tie.Need-loop-again Inv-loop μ-loop
+loop-again c =
+    let w = c .before .before .before .before in
+    let t = w .before .before in
+    let z = t .before .before in
+    let k = z .before .before in
+    let chart = k .before .before .before .before .before .before .before .args .chart in
+    let x : toZ w32 (ofZ w32 (k .reading .given .0 .0)) ≡ k .reading .given .0 .0 = search needs in
+    let zone = z .zone-on .ensures .0 ∙ ap (λ (t : ℤ). zoneAt (t -ℤ chart .centre) (chart .sigma)) x in
+    charted-more (k .before .before .before .loop .inv) _ _ (sym (k .before .before .read-line .ensures) ∙ k .reading .given .1) _ zone _ (t .take .ensures) _ _
+    (w .put-answer .ensures .0) (w .put-answer .ensures .1) (c .before .one-signal .ensures)
+
+pub put-points-spec : {M : Type 1} → statement M
+put-points-spec =
+    tie.close
+    (tie.spec
+    Inv-loop
+    μ-loop
+    fresh-requires
+    loop-holds
+    read-line-requires
+    enum-known-reading
+    put-total-requires
+    same-length
+    returns
+    zone-on-requires
+    add-count
+    take-requires
+    put-answer-requires
+    one-signal-requires
+    add-signals
+    add-points
+    loop-less
+    loop-again)

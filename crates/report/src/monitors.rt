@@ -1,0 +1,52 @@
+// What the monitor program prints for a text.
+use crate::ReportAnswer;
+use crate::points::Chart;
+use crate::points::put_points;
+use monitor::zone::Zoned;
+use rules::Checked;
+use rules::Refusal;
+ghost use mathlib.Core.Path.{_≡_};
+ghost use Rattle.rules.specs.Check.{within};
+ghost use Rattle.monitor.specs.Zone.{minSigma, maxSigma};
+ghost use Rattle.report.specs.Printed.{report, reportOf};
+ghost use Rattle.report.specs.MonitorReport.{monitorPrinted};
+
+// Whether sigma is in its bounds.
+fn sigma_fits(sigma: u32) -> bool
+    ensures { λ t. ⌜ t ≡ within minSigma maxSigma sigma ⌝ }
+{
+    if sigma < Zoned::MIN_SIGMA {
+        return false;
+    }
+    sigma <= Zoned::MAX_SIGMA
+}
+
+// The monitor program's lines for a text, in the lent buffer; or the refusal, with the buffer as it was: 17; 16; then 2, 3, 4; then 1, also
+// where there are no points.
+pub fn monitor_report(text: &[u8], out: &mut [u8; ReportAnswer::MONITOR_SIZE]) -> ReportAnswer
+    ensures { λ r. ⌜ report r (now (out .exit)) ≡ reportOf (monitorPrinted (now (text .entry))) (now (out .entry)) ⌝ }
+{
+    let read = parse::monitor_text(text);
+    let refusal = read.refusal;
+    if refusal.number != 0 {
+        return ReportAnswer::Refused(refusal);
+    }
+    let list = read.list;
+    match list.check() {
+        Checked::Refused(r) => return ReportAnswer::Refused(r),
+        Checked::Accepted => (),
+    }
+    let sigma = read.sigma;
+    if !sigma_fits(sigma) {
+        return ReportAnswer::Refused(Refusal {
+            number: Refusal::SIGMA,
+            place: 0,
+        });
+    }
+    let chart = Chart {
+        centre: read.centre,
+        sigma,
+    };
+    let n = put_points(out, text, read.points, list, chart);
+    ReportAnswer::Written(n)
+}
