@@ -25,6 +25,12 @@ impl Source {
         self.below(times) == 0
     }
 
+    /// Twelve equal chances added up: nearly normal.
+    pub fn normal(&mut self, mean: f64, deviation: f64) -> f64 {
+        let sum: f64 = (0..12).map(|_| self.below(1 << 30) as f64 / (1u64 << 30) as f64).sum();
+        mean + deviation * (sum - 6.0)
+    }
+
     /// A rule, mostly in bounds, with m up to the given bound.
     pub fn rule(&mut self, longest: u32) -> Rule {
         let m = 1 + self.below(u64::from(longest)) as u32;

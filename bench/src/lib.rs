@@ -2,10 +2,13 @@
 //! a source of inputs.
 pub mod bracket;
 pub mod chart;
+pub mod format;
 pub mod inputs;
-pub mod program;
+pub mod monitor_program;
 pub mod proved;
+pub mod ring;
 pub mod table;
+pub mod table_program;
 pub mod texts;
 
 /// A refusal's number and place.

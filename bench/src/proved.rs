@@ -19,6 +19,8 @@ extern "C" {
     fn catrovindy_bracket(pmf: *const u64, pmf_len: usize, state_count: u32, percent: u32, answer: *mut u32) -> u64;
 
     fn catrovindy_table_report(text: *const u8, text_len: usize, out: *mut u8, count: *mut u64) -> u64;
+
+    fn catrovindy_monitor_report(text: *const u8, text_len: usize, out: *mut u8, count: *mut u64) -> u64;
 }
 
 /// Eight slots of k, m and Z; what does not fit is cut off, and the count still says how many rules there are.
@@ -96,16 +98,29 @@ pub fn bracket(chances: &[u64], n: u32, p: u32) -> Result<Bracket, Refusal> {
 /// Room for the table program's lines at its largest horizon.
 pub const TABLE_REPORT_SIZE: usize = 84 * 4096 + 512;
 
-/// The lines of a text in the buffer, whose other places are kept: how many bytes they have, or the refusal.
-pub fn table_report(text: &[u8], out: &mut [u8; TABLE_REPORT_SIZE]) -> Result<usize, Refusal> {
+/// Room for the monitor program's lines of the longest text.
+pub const MONITOR_REPORT_SIZE: usize = 49 * 8192 + 48;
+
+type Report = unsafe extern "C" fn(*const u8, usize, *mut u8, *mut u64) -> u64;
+
+/// The caller's buffer has the size that the report's array has.
+unsafe fn report(call: Report, text: &[u8], out: &mut [u8]) -> Result<usize, Refusal> {
     let mut count = [77u64];
-    // The arrays have the sizes that the header gives, and the text comes with its length.
-    let code = unsafe { catrovindy_table_report(text.as_ptr(), text.len(), out.as_mut_ptr(), count.as_mut_ptr()) };
-    match refusal(code) {
+    match refusal(call(text.as_ptr(), text.len(), out.as_mut_ptr(), count.as_mut_ptr())) {
         Some(r) => {
             assert_eq!(count, [77], "a refusal altered the count");
             Err(r)
         }
         None => Ok(count[0] as usize),
     }
+}
+
+/// The table program's lines for a text in the buffer, whose other places are kept: how many bytes they have, or the refusal.
+pub fn table_report(text: &[u8], out: &mut [u8; TABLE_REPORT_SIZE]) -> Result<usize, Refusal> {
+    unsafe { report(catrovindy_table_report, text, out) }
+}
+
+/// The monitor program's lines, likewise.
+pub fn monitor_report(text: &[u8], out: &mut [u8; MONITOR_REPORT_SIZE]) -> Result<usize, Refusal> {
+    unsafe { report(catrovindy_monitor_report, text, out) }
 }

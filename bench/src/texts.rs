@@ -1,23 +1,31 @@
-//! Texts for the table program: as a planner writes them, and damaged.
+//! Texts for the two programs: as a planner or a bench writes them, and damaged.
 use crate::inputs::Source;
 
 impl Source {
-    /// A text that is mostly accepted, with a short horizon.
-    pub fn table_text(&mut self) -> Vec<u8> {
-        let weights = self.weights().map(|w| w.to_string()).join(",");
-        let mut text = format!("weights,{weights}\n");
-        let count = match self.below(40) {
+    /// How many rule lines: mostly few.
+    fn rule_count(&mut self) -> u64 {
+        match self.below(40) {
             0 => 0,
             1 => 8,
             2 => 9,
             3 => 40,
             n => 1 + n % 3,
-        };
-        for _ in 0..count {
-            let longest = if count > 3 { 2 } else { 4 };
-            let r = self.rule(longest);
-            text += &format!("rule,{},{},{}\n", r.k, r.m, r.z);
         }
+    }
+
+    fn rule_lines(&mut self, text: &mut String, count: u64, longest: u32) {
+        for _ in 0..count {
+            let r = self.rule(longest);
+            *text += &format!("rule,{},{},{}\n", r.k, r.m, r.z);
+        }
+    }
+
+    /// A text that is mostly accepted, with a short horizon.
+    pub fn table_text(&mut self) -> Vec<u8> {
+        let weights = self.weights().map(|w| w.to_string()).join(",");
+        let mut text = format!("weights,{weights}\n");
+        let count = self.rule_count();
+        self.rule_lines(&mut text, count, if count > 3 { 2 } else { 4 });
         let horizon = match self.below(30) {
             0 => 0,
             1 => 4_096,
@@ -26,6 +34,38 @@ impl Source {
             n => n as u32,
         };
         text += &format!("horizon,{horizon}\n");
+        text.into_bytes()
+    }
+
+    /// A signed number: mostly near, seldom at an end of 32 bits or beyond it.
+    fn reading(&mut self, near: i64) -> i64 {
+        match self.below(200) {
+            0 => i64::from(i32::MIN),
+            1 => i64::from(i32::MAX),
+            2 => i64::from(self.next() as i32),
+            3 if self.once_in(20) => i64::from(i32::MIN) - 1,
+            4 if self.once_in(20) => i64::from(i32::MAX) + 1,
+            n => near + n as i64 % 81 - 40,
+        }
+    }
+
+    /// A text that is mostly accepted, with few points.
+    pub fn monitor_text(&mut self) -> Vec<u8> {
+        let centre = if self.once_in(8) { self.reading(0) } else { self.below(400) as i64 - 200 };
+        let step = match self.below(60) {
+            0 => 0,
+            1 => 65_535,
+            2 => 65_536,
+            3 => u32::MAX,
+            n => 1 + n as u32 % 20,
+        };
+        let mut text = format!("chart,{centre},{step}\n");
+        let count = self.rule_count();
+        self.rule_lines(&mut text, count, 9);
+        for _ in 0..self.below(40) {
+            let near = centre + self.below(60) as i64 - 30;
+            text += &format!("point,{}\n", self.reading(near));
+        }
         text.into_bytes()
     }
 

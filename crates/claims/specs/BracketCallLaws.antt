@@ -15,7 +15,7 @@ use Rattle.rules.specs.Check.{activeRules}
 use Rattle.runlength.specs.SumLaws.{sum-cong}
 use Rattle.runlength.specs.TabLaws.{length-tab, getD-tab}
 use Rattle.runlength.specs.Chain.{Proper, pmf, cdf, survival}
-use Rattle.runlength.specs.ListedLaws.{pow-pow, listed-proper, listed-mass}
+use Rattle.runlength.specs.ListedLaws.{pow-pow, listed-proper}
 use Rattle.runlength.specs.PercentBounds.{share-reached, reached-share}
 use Rattle.runlength.specs.Percentile.{least, Contains}
 use Rattle.runlength.specs.PercentileLaws.{least-cong, bracket-contains, contains-exact}
@@ -24,6 +24,7 @@ use Rattle.states.specs.Automata.{stateAutomaton}
 use Rattle.states.specs.StatesLaws.{states-some}
 use Rattle.table.specs.declared.TableFigures.{TableFigures}
 use Rattle.table.specs.Table.{weightOf, stateCount, tableOf}
+use Rattle.table.specs.AcceptedLaws.{count-some, table-mass}
 use Rattle.bracket.specs.declared.BracketAnswer.the-variants.{At, Between}
 use Rattle.bracket.specs.Bracket.{cdfOf, lowTest, highTest, bracketBy, bracketOf}
 use Rattle.bracket.specs.Accepted.{Accepted}
@@ -43,14 +44,9 @@ answer-contains test h (some l) (some u) c = go (eqb l u) (eqb→eq l u)
     go true e = contains-exact test h l u (e tt) c
     go false e = c
 
--- there is a state at least
-pub some-state : (l : RuleList) → 0 < stateCount (activeRules l)
-unfolding stateCount
-some-state l = states-some (stateAutomaton (activeRules l))
-
 module _ (l : RuleList) (w : List ℕ) (h : ℕ) (p s : List ℕ) (f : TableFigures) (a : AcceptedCall l w h p s f) where
   pub proper-chain : Proper (chainOf l w)
-  proper-chain = listed-proper zoneCount (stateCount (activeRules l)) (moves (stateAutomaton (activeRules l))) (weightOf w) (some-state l) (a .weights)
+  proper-chain = listed-proper zoneCount (stateCount (activeRules l)) (moves (stateAutomaton (activeRules l))) (weightOf w) (count-some (activeRules l)) (a .weights)
 
   pub chances-length : length (chancesOf l w h p s) ≡ h
   chances-length = ap length (a .chances-are) ∙ length-tab h (λ k. pmf (chainOf l w) (suc k))
@@ -71,12 +67,11 @@ module _ (l : RuleList) (w : List ℕ) (h : ℕ) (p s : List ℕ) (f : TableFigu
   module _ (percent : ℕ) (some-percent : 1 ≤ percent) (part-percent : percent ≤ 99) where
     pub accepted-chances : Accepted (chancesOf l w h p s) (f .states) percent
     accepted-chances =
-        let n = stateCount (activeRules l) in
-        let m = listed-mass zoneCount n (moves (stateAutomaton (activeRules l))) (weightOf w) (some-state l) (a .weights) h in
+        let m = table-mass (activeRules l) w (a .weights) h in
         record {
           not-empty = rw chances-length (a .low);
           short = rw chances-length (a .high);
-          some-states = omega (arith, some-state l, a .states-are);
+          some-states = omega (arith, count-some (activeRules l), a .states-are);
           few-states = omega (arith, a .few, a .states-are);
           some-percent = some-percent;
           part-percent = part-percent;

@@ -13,7 +13,7 @@ use Rattle.rules.specs.Check.{activeRules, checkOf}
 use Rattle.runlength.specs.Sum.{only}
 use Rattle.runlength.specs.SequenceLaws.{sequences-cong}
 use Rattle.runlength.specs.Automaton.{product}
-use Rattle.runlength.specs.ListedLaws.{listed-mass, listed-cdf-lower, listed-cdf-strict-upper, listed-mean-lower, listed-mean-upper}
+use Rattle.runlength.specs.ListedLaws.{listed-cdf-lower, listed-cdf-strict-upper, listed-mean-lower, listed-mean-upper}
 use Rattle.runlength.specs.PercentileLaws.{never-percentile}
 use Rattle.monitor.specs.Step.{freshMonitor}
 use Rattle.monitor.specs.ReferenceChart.{chartAnswers}
@@ -25,6 +25,7 @@ use Rattle.rows.specs.Limits.{maxHorizon}
 use Rattle.table.specs.declared.TableFigures.{TableFigures}
 use Rattle.table.specs.declared.TableAnswer.{TableAnswer}
 use Rattle.table.specs.Table.{weightOf, stateCount, tableOf}
+use Rattle.table.specs.AcceptedLaws.{count-some, table-mass}
 use Rattle.bracket.specs.declared.BracketAnswer.the-variants.{At, Between, Open, Beyond}
 use Rattle.bracket.specs.Bracket.{cdfOf, bracketOf}
 use Rattle.claims.specs.Exact.{freeAnswers, saysSignal, exactSum, exactMean, monitorSum, reached, ContainsPercentile}
@@ -32,7 +33,7 @@ use Rattle.claims.specs.ExactLaws.{sum-of-chain, mean-of-chain}
 use Rattle.claims.specs.MonitorLaws.{zones-exist, monitor-free}
 use Rattle.claims.specs.TableCall.{chancesOf, meanOf, AcceptedCall}
 use Rattle.claims.specs.TableCallLaws.{accepted-call}
-use Rattle.claims.specs.BracketCallLaws.{some-state, chances-cdf, left-at, call-contains}
+use Rattle.claims.specs.BracketCallLaws.{chances-cdf, left-at, call-contains}
 
 -- ---- the monitor and the plain chart, for every accepted rule list
 
@@ -76,8 +77,8 @@ module _ (l : RuleList) (w : List ℕ) (h : ℕ) (p s : List ℕ) (f : TableFigu
         let N = stateCount (activeRules l) in
         let m = moves (stateAutomaton (activeRules l)) in
         rw (sum-of-chain (activeRules l) w (call .bounds) (call .few) n, chances-cdf l w h p s f call n n-max, call .states-are) (
-          listed-cdf-lower zoneCount N m (weightOf w) (some-state l) (call .weights) n,
-          listed-cdf-strict-upper zoneCount N m (weightOf w) (some-state l) (call .weights) n n-min,
+          listed-cdf-lower zoneCount N m (weightOf w) (count-some (activeRules l)) (call .weights) n,
+          listed-cdf-strict-upper zoneCount N m (weightOf w) (count-some (activeRules l)) (call .weights) n n-min,
         )
 
     -- The same of what a fresh monitor signals on, every zone sequence of length n fed to it.
@@ -90,7 +91,7 @@ module _ (l : RuleList) (w : List ℕ) (h : ℕ) (p s : List ℕ) (f : TableFigu
         × (2 ^ 60 ≤ cdfOf (chancesOf l w h p s) n + getD (tableOf l w h p s .survivalList) (n - 1) 0 + n * f .states)
     mass-kept =
         rw (chances-cdf l w h p s f call n n-max, left-at l w h p s f call n n-min n-max, call .states-are)
-        (listed-mass zoneCount (stateCount (activeRules l)) (moves (stateAutomaton (activeRules l))) (weightOf w) (some-state l) (call .weights) n)
+        (table-mass (activeRules l) w (call .weights) n)
 
   -- For every percent from 1 to 99 the bracket taken from exactly the H chances as written, with this N, is not refused and contains the
   -- true percentile.
@@ -105,8 +106,8 @@ module _ (l : RuleList) (w : List ℕ) (h : ℕ) (p s : List ℕ) (f : TableFigu
       let N = stateCount (activeRules l) in
       let m = moves (stateAutomaton (activeRules l)) in
       rw (mean-of-chain (activeRules l) w (call .bounds) (call .few) h, call .mean-is, call .states-are) (
-        listed-mean-lower zoneCount N m (weightOf w) (some-state l) (call .weights) h,
-        listed-mean-upper zoneCount N m (weightOf w) (some-state l) (call .weights) h,
+        listed-mean-lower zoneCount N m (weightOf w) (count-some (activeRules l)) (call .weights) h,
+        listed-mean-upper zoneCount N m (weightOf w) (count-some (activeRules l)) (call .weights) h,
       )
 
 -- ---- where no n reaches the percentile, it counts as beyond every number

@@ -12,15 +12,12 @@ use Rattle.runlength.specs.Sum.{sum, tab, front}
 use Rattle.runlength.specs.SumLaws.{sum-cong, sum-le, sum-const}
 use Rattle.runlength.specs.TabLaws.{length-tab, getD-tab}
 use Rattle.runlength.specs.Chain.{Chain, pmf, cdf, survival, restrictedMean}
-use Rattle.runlength.specs.ListedLaws.{listed-mass}
-use Rattle.states.specs.States.{moves}
-use Rattle.states.specs.Automata.{stateAutomaton}
 use Rattle.rows.specs.Limits.{weightTotal, unitsPerOne}
 use Rattle.table.specs.declared.TableFigures.{TableFigures}
 use Rattle.table.specs.Table.{weightOf, stateCount, tableChain, figuresOf, tableOf}
 use Rattle.bracket.specs.Bracket.{cdfOf}
 use Rattle.table.specs.Accepted.{Passed, AcceptedCall}
-use Rattle.table.specs.AcceptedLaws.{count-some, take-front}
+use Rattle.table.specs.AcceptedLaws.{count-some, take-front, table-mass}
 use Rattle.plot.specs.Plot.{Plottable}
 
 -- ---- the figures and the list of an accepted table
@@ -29,19 +26,15 @@ module _ (rs : List Rule) (w : List ℕ) (weights : sum zoneCount (weightOf w) �
   abbrev chain : Chain
   chain = tableChain rs w
 
-  -- by and left are at most the whole
-  mass : (k : ℕ) → cdf chain k + survival chain k ≤ unitsPerOne
-  mass k = listed-mass zoneCount (stateCount rs) (moves (stateAutomaton rs)) (weightOf w) (count-some rs) weights k .0
-
   -- the restricted mean is at most the horizon
   pub mean-most : (h : ℕ) → restrictedMean chain h ≤ h * unitsPerOne
   unfolding restrictedMean
-  mean-most h = omega (arith, sum-le h (survival chain) (λ k. unitsPerOne) (λ k i. omega (arith, mass k)), sum-const h unitsPerOne)
+  mean-most h = omega (arith, sum-le h (survival chain) (λ k. unitsPerOne) (λ k i. omega (arith, table-mass rs w weights k)), sum-const h unitsPerOne)
 
   -- the chances that the table writes sum to at most the whole
   pub written-total : (h : ℕ) → cdfOf (tab h (λ k. pmf chain (suc k))) h ≤ unitsPerOne
   unfolding cdfOf cdf
-  written-total h = omega (arith, sum-cong h _ _ (λ k i. getD-tab h (λ k. pmf chain (suc k)) k i), mass h)
+  written-total h = omega (arith, sum-cong h _ _ (λ k i. getD-tab h (λ k. pmf chain (suc k)) k i), table-mass rs w weights h)
 
 module _ (l : RuleList) (w : List ℕ) (h : ℕ) (p s : List ℕ) where
   filled-plottable : Passed l w h (length p) (length s)

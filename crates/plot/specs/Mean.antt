@@ -20,10 +20,6 @@ roundDown u = u / unitsPerPart
 abbrev pub roundUp : ℕ → ℕ
 roundUp u = (u + (unitsPerPart - 1)) / unitsPerPart
 
--- the error bound (document 01's allowed shortfall) of the mean cut at h with n states, in units
-abbrev pub errorBoundOf : ℕ → ℕ → ℕ
-errorBoundOf n h = n * h * (h - 1) / 2
-
--- more than it ever is: 1,024 states and a horizon of 65,535 are the most
+-- more than the error bound ever is: 1,024 states and a horizon of 65,535 are the most
 abbrev pub maxErrorBound : ℕ
 maxErrorBound = 2 ^ 42

@@ -5,7 +5,8 @@ use native.Mathlib.Nat.{mul-le-mul}
 use native.Mathlib.Omega.{arith}
 use Rattle.rules.specs.Bounds.{maxStates}
 use Rattle.rows.specs.Limits.{maxHorizon, unitsPerOne}
-use Rattle.plot.specs.Mean.{partsPerOne, unitsPerPart, meanUnits, roundDown, roundUp, errorBoundOf, maxErrorBound}
+use Rattle.runlength.specs.Chain.{errorBoundOf}
+use Rattle.plot.specs.Mean.{partsPerOne, unitsPerPart, meanUnits, roundDown, roundUp, maxErrorBound}
 
 -- rounded down: the whole part's parts, and those of the fraction
 pub down-parts : (w f : ℕ) → roundDown (meanUnits w f) ≡ w * partsPerOne + f / unitsPerPart

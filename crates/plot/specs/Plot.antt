@@ -15,7 +15,8 @@ use Rattle.plot.specs.declared.PlotRecord.{PlotRecord}
 use Rattle.plot.specs.declared.BoxPlotAnswer.{BoxPlotAnswer}
 use Rattle.plot.specs.declared.BoxPlotAnswer.the-variants as plot
 use Rattle.plot.specs.Double.{nearestTo}
-use Rattle.plot.specs.Mean.{partsPerOne, meanUnits, roundDown, roundUp, errorBoundOf}
+use Rattle.runlength.specs.Chain.{errorBoundOf}
+use Rattle.plot.specs.Mean.{partsPerOne, meanUnits, roundDown, roundUp}
 use Rattle.plot.specs.Item.{itemOf, spreadOf}
 
 -- the mean's lower and upper value in parts of 2^-36, by the table's figures and the horizon

@@ -24,7 +24,8 @@ use Rattle.table.specs.declared.TableAnswer.the-variants as table
 use Rattle.table.specs.Table.{weightOf, stateCount, tableChain, TableResult, tableOf}
 use Rattle.plot.specs.declared.PlotRecord.{PlotRecord}
 use Rattle.plot.specs.declared.BoxPlotAnswer.{BoxPlotAnswer}
-use Rattle.plot.specs.Mean.{partsPerOne, unitsPerPart, roundDown, roundUp, errorBoundOf}
+use Rattle.runlength.specs.Chain.{errorBoundOf}
+use Rattle.plot.specs.Mean.{partsPerOne, unitsPerPart, roundDown, roundUp}
 use Rattle.plot.specs.Plot.{lowerParts, upperParts, plotBy, boxPlotOf}
 use Rattle.table.specs.Accepted.{AcceptedCall}
 use Rattle.plot.specs.Passed.{MadeOf}

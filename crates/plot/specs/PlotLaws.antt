@@ -19,7 +19,8 @@ use Rattle.bracket.specs.Accepted.{Accepted}
 use Rattle.plot.specs.declared.PlotRecord.{PlotRecord}
 use Rattle.plot.specs.declared.BoxPlotAnswer.{BoxPlotAnswer}
 use Rattle.plot.specs.DoubleLaws.{exact}
-use Rattle.plot.specs.Mean.{partsPerOne, errorBoundOf}
+use Rattle.runlength.specs.Chain.{errorBoundOf}
+use Rattle.plot.specs.Mean.{partsPerOne}
 use Rattle.plot.specs.MeanLaws.{error-bound-most, down-fits, up-fits}
 use Rattle.plot.specs.Item.{itemOf, Ordered}
 use Rattle.plot.specs.Shown.{Shows, ShowsBrackets}

@@ -12,7 +12,8 @@ ghost use Rattle.rows.specs.Limits.{maxHorizon, unitsPerOne};
 ghost use Rattle.bracket.specs.Bracket.{bracketOf};
 ghost use Rattle.plot.specs.Double.{Exactly};
 ghost use Rattle.plot.specs.Item.{itemOf, Ordered, spreadOf};
-ghost use Rattle.plot.specs.Mean.{partsPerOne, meanUnits, roundDown, roundUp, errorBoundOf, maxErrorBound};
+ghost use Rattle.plot.specs.Mean.{partsPerOne, meanUnits, roundDown, roundUp, maxErrorBound};
+ghost use Rattle.runlength.specs.Chain.{errorBoundOf};
 ghost use Rattle.plot.specs.Plot.{recordOf, Plottable, boxPlotResult, boxPlotOf};
 
 // A percentile for the plotter: at a number, between two, at one or above, or beyond the horizon.

@@ -11,7 +11,7 @@ use Rattle.print.specs.Refused.{refusedLine}
 use Rattle.print.specs.Monitor.{quietLine, signalLine, totalLine}
 use Rattle.print.specs.Row.{standingsLine, rowLine, tableRows, arlLine}
 use Rattle.print.specs.Percentile.{placeFields, bracketLine, percentLine, percentLines}
-use Rattle.print.specs.Table.{errorBoundOf, tableBytes}
+use Rattle.print.specs.Table.{tableBytes}
 
 -- the listing, byte by byte
 -- `standings,2`
@@ -57,7 +57,7 @@ survival : List ℕ
 survival = 1152921504606846976 ∷ 864691128455135232 ∷ 720575940379279360 ∷ 576460752303423488 ∷ []
 
 listing : tableBytes 2 4 pmf survival 3 432345564227567616 ≡ topLines ++ rowLines ++ meanLine ++ percentileLines
-unfolding pmf survival tableBytes standingsLine tableRows rowLine arlLine errorBoundOf percentLines percentLine bracketLine placeFields field decimal digitsOf cdfOf sum bracketOf bracketBy lowTest highTest least
+unfolding pmf survival tableBytes standingsLine tableRows rowLine arlLine percentLines percentLine bracketLine placeFields field decimal digitsOf cdfOf sum bracketOf bracketBy lowTest highTest least
 listing = refl
 
 -- `q,50,open,1`

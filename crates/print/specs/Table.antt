@@ -1,13 +1,10 @@
 -- All that the table program prints. Definitions.
-use Prim.Native.Nat.{ℕ, _*_, _/_, _-_}
+use Prim.Native.Nat.{ℕ}
 use mathlib.Core.List.{List, _++_}
 use lib.ListN.{take}
+use Rattle.runlength.specs.Chain.{errorBoundOf}
 use Rattle.print.specs.Row.{standingsLine, headerLine, tableRows, arlLine}
 use Rattle.print.specs.Percentile.{percentLines}
-
--- the error bound of the cut mean (document 01's allowed shortfall), in units: N × h × (h - 1) / 2
-unfoldable pub errorBoundOf : ℕ → ℕ → ℕ
-errorBoundOf states h = states * h * (h - 1) / 2
 
 -- N standings, h rows of the chances and of what is left, the mean's whole part and fraction, the five brackets of the h chances
 unfoldable pub tableBytes : ℕ → ℕ → List ℕ → List ℕ → ℕ → ℕ → List ℕ

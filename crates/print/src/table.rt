@@ -9,7 +9,8 @@ ghost use Prim.Native.Nat.{_≤_, _^_};
 ghost use lib.ListN.{length};
 ghost use Rattle.text.specs.Wrote.{Wrote};
 ghost use Rattle.bracket.specs.Bracket.{cdfOf};
-ghost use Rattle.print.specs.Table.{errorBoundOf, tableBytes, maxRows, tableRoom};
+ghost use Rattle.runlength.specs.Chain.{errorBoundOf};
+ghost use Rattle.print.specs.Table.{tableBytes, maxRows, tableRoom};
 
 // A buffer of so many bytes has room for every table: 84 for each of 4,096 rows, and 512 for all other lines.
 pub const TABLE_ROOM: usize = 84 * 4096 + 512;

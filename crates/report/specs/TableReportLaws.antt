@@ -16,7 +16,6 @@ use Rattle.runlength.specs.Sum.{sum, tab, front}
 use Rattle.runlength.specs.SumLaws.{sum-cong}
 use Rattle.runlength.specs.TabLaws.{length-tab, getD-tab}
 use Rattle.runlength.specs.Chain.{pmf, cdf, survival}
-use Rattle.runlength.specs.ListedLaws.{listed-mass}
 use Rattle.states.specs.States.{moves}
 use Rattle.states.specs.Automata.{stateAutomaton}
 use Rattle.rows.specs.Limits.{unitsPerOne}
@@ -24,7 +23,7 @@ use Rattle.table.specs.declared.TableFigures.{TableFigures}
 use Rattle.table.specs.declared.TableAnswer.{TableAnswer}
 use Rattle.table.specs.Table.{weightOf, stateCount, tableChain, TableResult, tableResult, tableOf}
 use Rattle.table.specs.Accepted.{AcceptedCall}
-use Rattle.table.specs.AcceptedLaws.{count-some, accepted-call}
+use Rattle.table.specs.AcceptedLaws.{accepted-call, table-mass}
 use Rattle.bracket.specs.Bracket.{cdfOf}
 use Rattle.text.specs.Wrote.{Wrote}
 use Rattle.parse.specs.declared.tables.TableText.{TableText}
@@ -70,7 +69,7 @@ module _ (l : RuleList) (w : List ℕ) (h : ℕ) (p s : List ℕ) (f : TableFigu
       let c = call .passed in
       let a : sum h (λ k. getD p′ k 0) ≡ cdf (tableChain (activeRules l) w) h =
       sum-cong h _ _ (λ k i. ap (λ x. getD x k 0) pmf-is ∙ front-at h (λ k. pmf (tableChain (activeRules l) w) (suc k)) p k i) in
-      omega (arith, a, listed-mass zoneCount (stateCount (activeRules l)) (moves (stateAutomaton (activeRules l))) (weightOf w) (count-some (activeRules l)) (c .weights) h .0)
+      omega (arith, a, table-mass (activeRules l) w (c .weights) h)
 
   pub printable : Printable h p s p′ s′
   printable =

@@ -24,6 +24,10 @@ pub record Proper (c : Chain) : Type 0 where
   pub base-pos : 0 < c .base
   pub whole-pos : 0 < c .whole
 
+-- the error bound (document 01's allowed shortfall) of the mean cut at h with so many states, in units
+abbrev pub errorBoundOf : ℕ → ℕ → ℕ
+errorBoundOf states h = states * h * (h - 1) / 2
+
 module _ (c : Chain) where
   -- what reaches the state t in one point: the sum, over each state and zone that leads to t with no signal, of units × weight
   unfoldable pub inflow : (ℕ → ℕ) → ℕ → ℕ
@@ -59,4 +63,4 @@ module _ (c : Chain) where
 
   -- document 01's allowed shortfall of the cut mean, in units
   unfoldable pub meanErrorBound : ℕ → ℕ
-  meanErrorBound h = c .size * h * (h - 1) / 2
+  meanErrorBound h = errorBoundOf (c .size) h

@@ -2,7 +2,7 @@
 use mathlib.Core.Path.{_≡_, refl, ap}
 use mathlib.Core.Bool.{Bool, true, false}
 use mathlib.Core.List.{List}
-use Prim.Native.Nat.{ℕ, suc, _≤_}
+use Prim.Native.Nat.{ℕ, suc, _+_, _*_, _^_, _≤_}
 use native.Mathlib.Omega.{arith}
 use lib.Dec.{leb, eqb}
 use lib.ListN.{length, take, drop}
@@ -18,6 +18,9 @@ use Rattle.rules.specs.Check.{within, activeRules, checkOf}
 use Rattle.rules.specs.CheckLaws.{both, between}
 use Rattle.runlength.specs.Sum.{sum, tab, front}
 use Rattle.runlength.specs.TabLaws.{length-tab}
+use Rattle.runlength.specs.Chain.{cdf, survival}
+use Rattle.runlength.specs.ListedLaws.{listed-mass}
+use Rattle.states.specs.States.{moves}
 use Rattle.states.specs.Automata.{stateAutomaton}
 use Rattle.states.specs.StatesLaws.{states-some}
 use Rattle.rows.specs.Limits.{maxHorizon, weightTotal}
@@ -37,6 +40,11 @@ count-some rs = states-some (stateAutomaton rs)
 pub take-front : (h : ℕ) (f : ℕ → ℕ) (d : List ℕ) → take h (front h f d) ≡ tab h f
 unfolding front
 take-front h f d = take-at (tab h f) (drop h d) h (length-tab h f)
+
+-- by and left of the table are together at most probability one, and short of it by at most a unit for each state and point
+pub table-mass : (rs : List Rule) (w : List ℕ) → sum zoneCount (weightOf w) ≡ weightTotal → (n : ℕ)
+    → (cdf (tableChain rs w) n + survival (tableChain rs w) n ≤ 2 ^ 60) × (2 ^ 60 ≤ cdf (tableChain rs w) n + survival (tableChain rs w) n + n * stateCount rs)
+table-mass rs w weights n = listed-mass zoneCount (stateCount rs) (moves (stateAutomaton rs)) (weightOf w) (count-some rs) weights n
 
 passed : (t : Bool) (x : Refusal) → unless t x ≡ Accepted → t ≡ true
 passed true x e = refl

@@ -1,0 +1,64 @@
+// The zones' weights of source 001's twelve settings.
+//
+// How they were made: in control the source gives the zones S, A, B, C the probabilities 0.0027, 0.0428, 0.2718, 0.6827, so the three
+// limits are the chi-square quantiles with 0.0027, 0.0455 and 0.3173 above them. For a ratio r of standard deviations and a non-centrality
+// lambda, a zone's probability is that of r^2 times a non-central chi-square number between its limits. The probability times 2^30 is
+// rounded to the nearest whole number, and what is missing from 2^30 in all is added to the largest weight.
+use crate::decimal;
+use rules::ZONES;
+ghost use Prim.Native.Nat.{_<_};
+
+pub const SETTINGS: usize = 12;
+
+// Degrees of freedom; r and lambda in tenths.
+const NAMES: [[u64; 3]; SETTINGS] = [
+    [3, 10, 0],
+    [3, 10, 20],
+    [3, 10, 40],
+    [3, 15, 0],
+    [3, 15, 20],
+    [3, 15, 40],
+    [5, 10, 0],
+    [5, 10, 20],
+    [5, 10, 40],
+    [5, 15, 0],
+    [5, 15, 20],
+    [5, 15, 40],
+];
+
+// The chart has four zones only; they stand in the places of S, A1, B1 and C1.
+const WEIGHTS: [[u32; ZONES]; SETTINGS] = [
+    [2899103, 45956150, 291843028, 733043543, 0, 0, 0],
+    [29350697, 165120490, 421841363, 457429274, 0, 0, 0],
+    [87185275, 281630588, 432725164, 272200797, 0, 0, 0],
+    [105496005, 229751943, 380708684, 357785192, 0, 0, 0],
+    [313439643, 297499752, 289511436, 173290993, 0, 0, 0],
+    [516368876, 280941430, 193894538, 82536980, 0, 0, 0],
+    [2899103, 45956150, 291843028, 733043543, 0, 0, 0],
+    [20548945, 137366532, 411661871, 504164476, 0, 0, 0],
+    [59875134, 238397293, 445256540, 330212857, 0, 0, 0],
+    [162437842, 280400809, 371935777, 258967396, 0, 0, 0],
+    [355525551, 312150240, 273644564, 132421469, 0, 0, 0],
+    [539591754, 283642970, 184031169, 66475931, 0, 0, 0],
+];
+
+pub fn weights_of(setting: usize) -> [u32; ZONES]
+    requires { ⌜ setting < 12 ⌝ }
+{
+    WEIGHTS[setting]
+}
+
+fn name_of(setting: usize) -> [u64; 3]
+    requires { ⌜ setting < 12 ⌝ }
+{
+    NAMES[setting]
+}
+
+pub fn print(setting: usize)
+    requires { ⌜ setting < 12 ⌝ }
+{
+    let name = name_of(setting);
+    show::number(b" df ", name[0]);
+    decimal::print(b" r ", name[1], 1);
+    decimal::print(b" lambda ", name[2], 1);
+}
