@@ -15,23 +15,23 @@ use Rattle.parse.specs.Readings.{readingsAt, afterPoints}
 use Rattle.parse.specs.MonitorText.{refusedMonitor, readMonitor, monitorEnd, monitorText}
 
 -- weights,0,536870912,0,0,536870912,0,0
-abbrev weights : List ℕ
+abbrev pub weights : List ℕ
 weights = 119 ∷ 101 ∷ 105 ∷ 103 ∷ 104 ∷ 116 ∷ 115 ∷ 44 ∷ 48 ∷ 44 ∷ 53 ∷ 51 ∷ 54 ∷ 56 ∷ 55 ∷ 48 ∷ 57 ∷ 49 ∷ 50 ∷ 44 ∷ 48 ∷ 44 ∷ 48 ∷ 44 ∷ 53 ∷ 51 ∷ 54 ∷ 56 ∷ 55 ∷ 48 ∷ 57 ∷ 49 ∷ 50 ∷ 44 ∷ 48 ∷ 44 ∷ 48 ∷ 10 ∷ []
 
 -- rule,2,2,2
-abbrev rule : List ℕ
+abbrev pub rule : List ℕ
 rule = 114 ∷ 117 ∷ 108 ∷ 101 ∷ 44 ∷ 50 ∷ 44 ∷ 50 ∷ 44 ∷ 50 ∷ 10 ∷ []
 
 -- horizon,4
-abbrev horizon : List ℕ
+abbrev pub horizon : List ℕ
 horizon = 104 ∷ 111 ∷ 114 ∷ 105 ∷ 122 ∷ 111 ∷ 110 ∷ 44 ∷ 52 ∷ 10 ∷ []
 
 -- chart,100,10
-abbrev chart : List ℕ
+abbrev pub chart : List ℕ
 chart = 99 ∷ 104 ∷ 97 ∷ 114 ∷ 116 ∷ 44 ∷ 49 ∷ 48 ∷ 48 ∷ 44 ∷ 49 ∷ 48 ∷ 10 ∷ []
 
 -- point,121
-abbrev point : List ℕ
+abbrev pub point : List ℕ
 point = 112 ∷ 111 ∷ 105 ∷ 110 ∷ 116 ∷ 44 ∷ 49 ∷ 50 ∷ 49 ∷ 10 ∷ []
 
 -- point,-3

@@ -6,4 +6,4 @@ pub mod Readings
 pub mod ReadingsLaws
 pub mod MonitorText
 pub mod MonitorTextLaws
-mod Examples
+pub mod Examples

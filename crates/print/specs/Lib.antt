@@ -8,4 +8,4 @@ pub mod Percentile
 pub mod Table
 pub mod TableLaws
 pub mod SameLaws
-mod Examples
+pub mod Examples

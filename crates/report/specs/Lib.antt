@@ -7,3 +7,4 @@ pub mod Points
 pub mod PointsLaws
 pub mod MonitorReport
 pub mod MonitorReportLaws
+mod Examples
