@@ -1,3 +1,14 @@
 -- What the exported functions mean.
-pub mod Capi
-pub mod CapiLaws
+pub mod Codes
+pub mod TableCall
+pub mod TableCallLaws
+pub mod BracketCall
+pub mod BracketCallLaws
+pub mod MonitorCall
+pub mod MonitorCallLaws
+pub mod BatchCall
+pub mod BatchCallLaws
+pub mod PlotCall
+pub mod PlotCallLaws
+pub mod ReportCall
+pub mod ReportCallLaws

@@ -6,7 +6,7 @@ use native.Mathlib.Omega.{arith}
 use lib.Dec.{leb}
 use borrow.Author.Tests.{le-leb, lt-leb}
 use Rattle.monitor.specs.Window.{liveHit, live, hitsUpTo}
-use Rattle.monitor.specs.WindowLaws.{le-or-lt, cond-le, hits-le, live-le}
+use Rattle.monitor.specs.WindowLaws.{le-or-lt, cond-le, live-goes, hits-le, live-le}
 
 -- where k is out of reach nothing is kept
 pub out-of-reach : (k c n w : ℕ) → c + 1 + n < k → live k c n w ≡ 0
@@ -15,6 +15,10 @@ out-of-reach k c zero w h = refl
 out-of-reach k c (suc n) w h =
     let e : live k (c + w % 2) n (w / 2) ≡ 0 = out-of-reach k (c + w % 2) n (w / 2) (omega arith) in
     rw (lt-leb k (c + w % 2 + suc n) (omega arith), e)
+
+-- where the newest hit is forgotten, so is every older one
+pub live-ends : (k c n w : ℕ) → 0 < n → c + w % 2 + n < k → live k c n w ≡ 0
+live-ends k c n w h q = omega (arith, live-goes k c n w h q, out-of-reach k (c + w % 2) (n - 1) (w / 2) (omega arith))
 
 -- where it is not, the newest bit stays
 bit-stays : (k c n b : ℕ) → b < 2 → k ≤ c + 1 + n → liveHit k (c + b) n b ≡ b

@@ -1,13 +1,13 @@
 -- Laws of the state, one rule at a time, for the rules from i up to n in the slots; and bounds.
-use mathlib.Core.Path.{_≡_, refl}
+use mathlib.Core.Path.{_≡_, ap, _∙_}
 use mathlib.Core.Bool.{Bool, true, false, cond}
-use mathlib.Core.List.{List, [], _∷_}
+use mathlib.Core.List.{List}
 use Prim.Native.Nat.{ℕ, zero, suc, _+_, _-_, _*_, _/_, _%_, _^_, _≤_, _<_}
 use native.Mathlib.Nat.{lt-of-lt-of-le, pow-le-pow-right, pow-succ'}
 use native.Mathlib.Omega.{arith}
 use lib.ListN.{getD}
 use lib.Dec.{eqb}
-use lib.Pow.{pow-mono}
+use lib.Pow.{pow-mono, shr-shr}
 use Rattle.rules.specs.declared.Rule.{Rule}
 use Rattle.rules.specs.Bounds.{maxRules}
 use Rattle.rules.specs.Check.{noRule, rulesFrom}
@@ -54,6 +54,42 @@ module _ (slots : List Rule) (n i : ℕ) (h : n ≤ i) where
   pub next-none : (s z : ℕ) → nextState (rulesFrom (n - i) i slots) s z ≡ 0
   unfolding nextState
   next-none s z = rw (rules-none slots n i h)
+
+-- ---- the windows from i on
+
+abbrev pub windowsFrom : ℕ → ℕ → ℕ
+windowsFrom i s = s / 2 ^ (maxAge * i)
+
+pub windows-on : (i s : ℕ) → windowsFrom i s / windowBase ≡ windowsFrom (i + 1) s
+windows-on i s = let e : maxAge * i + maxAge ≡ maxAge * (i + 1) = omega arith in shr-shr s (maxAge * i) maxAge ∙ ap (λ (t : ℕ). s / 2 ^ t) e
+
+-- one rule more, from the last to the first: rule j - 1 before those from j on
+module _ (slots : List Rule) (n j : ℕ) (some : 0 < j) (h : j ≤ n) where
+  pub mask-back : (s z : ℕ) → stateMask (rulesFrom (n - (j - 1)) (j - 1) slots) (windowsFrom (j - 1) s) z
+      ≡ bit (windowHolds (getD slots (j - 1) noRule) (windowsFrom (j - 1) s % windowBase) z) + 2 * stateMask (rulesFrom (n - j) j slots) (windowsFrom j s) z
+  mask-back s z =
+      let e : j - 1 + 1 ≡ j = omega arith in
+      rw e at (mask-cons slots n (j - 1) (omega arith) (windowsFrom (j - 1) s) z
+      ∙ ap (λ (t : ℕ). bit (windowHolds (getD slots (j - 1) noRule) (windowsFrom (j - 1) s % windowBase) z) + 2 * stateMask (rulesFrom (n - (j - 1 + 1)) (j - 1 + 1) slots) t z) (windows-on (j - 1) s))
+
+  pub next-back : (s z : ℕ) → nextState (rulesFrom (n - (j - 1)) (j - 1) slots) (windowsFrom (j - 1) s) z
+      ≡ nextWindow (getD slots (j - 1) noRule) (windowsFrom (j - 1) s % windowBase) z + windowBase * nextState (rulesFrom (n - j) j slots) (windowsFrom j s) z
+  next-back s z =
+      let e : j - 1 + 1 ≡ j = omega arith in
+      rw e at (next-cons slots n (j - 1) (omega arith) (windowsFrom (j - 1) s) z
+      ∙ ap (λ (t : ℕ). nextWindow (getD slots (j - 1) noRule) (windowsFrom (j - 1) s % windowBase) z + windowBase * nextState (rulesFrom (n - (j - 1 + 1)) (j - 1 + 1) slots) t z) (windows-on (j - 1) s))
+
+-- at the first rule all are passed
+pub all-passed : (f : List Rule → ℕ → ℕ) (slots : List Rule) (n j s : ℕ) → j ≡ 0 → f (rulesFrom (n - j) j slots) (windowsFrom j s) ≡ f (rulesFrom n 0 slots) s
+all-passed f slots n j s h =
+    let e : n - 0 ≡ n = omega arith in
+    let d : windowsFrom 0 s ≡ s = omega arith in
+    rw h (rw (e, d))
+
+-- the rules from any place on are in bounds where all are
+pub bounds-from : (slots : List Rule) (n i : ℕ) → i ≤ n → AllInBounds (rulesFrom n 0 slots) → AllInBounds (rulesFrom (n - i) i slots)
+bounds-from slots n zero h p = let e : n - 0 ≡ n = omega arith in rw e p
+bounds-from slots n (suc i) h p = let e : suc i ≡ i + 1 = omega arith in rw e (bounds-cons slots n i (omega arith) (bounds-from slots n i (omega arith) p) .1)
 
 -- ---- bounds: a mask has a bit a rule, a window fits its digit, a state its number
 

@@ -1,8 +1,12 @@
 -- What a step with accepted rules answers, case by case.
-use mathlib.Core.Path.{_≡_, refl, sym, ap, _∙_}
-use mathlib.Core.Bool.{Bool, true, false}
+use mathlib.Core.Path.{_≡_, _∙_}
+use mathlib.Core.Bool.{true, false, cond}
+use mathlib.Core.Logic.{⊎-elim}
 use mathlib.Core.List.{List}
 use Prim.Native.Nat.{ℕ, _+_, _≤_, _<_}
+use native.Mathlib.Nat.{eq-zero-or-pos}
+use native.Mathlib.Omega.{arith}
+use lib.Dec.{eqb}
 use borrow.Author.Tests.{lt-ltb, le-ltb, eq-eqb, ne-eqb}
 use Rattle.rules.specs.declared.Rule.{Rule}
 use Rattle.rules.specs.Bounds.{zoneCount}
@@ -64,3 +68,16 @@ module _ (rs : List Rule) (m : Monitor) (z : ℕ) where
   pub take-quiet : stateMask rs (m .state) z ≡ 0 → takenOf rs m z ≡ record { mask = 0; next = monitorAt (nextState rs (m .state) z) (m .count + 1) }
   unfolding takenOf
   take-quiet e = rw e
+
+-- the step that a taken point is, with the count that it has
+abbrev pub stepTaken : ℕ → Taken → Step
+stepTaken count t = cond (eqb (t .mask) 0) (Step.Quiet count (t .next)) (Step.Signal count (t .mask) (t .next))
+
+-- where nothing is refused, a step is what taking the point says
+pub step-take : (rs : List Rule) (m : Monitor) (z : ℕ) → z < zoneCount → validState (m .count) rs (m .state) ≡ true → m .count < maxCount → acceptedStep rs m z ≡ stepTaken (m .count + 1) (takenOf rs m z)
+step-take rs m z zone valid h =
+    ⊎-elim
+    (λ (n : stateMask rs (m .state) z ≡ 0). rw (step-quiet rs m z zone valid h n, take-quiet rs m z n))
+    (λ (n : 0 < stateMask rs (m .state) z).
+    rw (step-signal rs m z zone valid h (λ y. omega arith), take-signal rs m z (λ y. omega arith), ne-eqb (stateMask rs (m .state) z) 0 (λ y. omega arith)))
+    (eq-zero-or-pos (stateMask rs (m .state) z))

@@ -5,7 +5,9 @@ use mathlib.Core.Logic.{⊎-elim, _⊎_, inl, inr}
 use Prim.Native.Nat.{ℕ, zero, suc, _+_, _-_, _*_, _/_, _%_, _^_, _≤_, _<_}
 use native.Mathlib.Nat.{div-div-eq-div-mul, pow-succ', zero-div}
 use native.Mathlib.Omega.{arith}
+use lib.Count.{ones, onesIn, ones-step}
 use lib.Dec.{leb}
+use lib.Pow.{field, mod-mod-pow}
 use borrow.Author.Tests.{le-leb, lt-leb, leb-true, leb-false}
 use Rattle.rules.specs.declared.Rule.{Rule}
 use Rattle.monitor.specs.Window.{hitOfAge, hitsUpTo, liveHit, live, remembered}
@@ -40,14 +42,17 @@ module _ (k seen room w : ℕ) (h : 0 < room) where
   pub live-goes : seen + w % 2 + room < k → live k seen room w ≡ 2 * live k (seen + w % 2) (room - 1) (w / 2)
   live-goes q = live-cons k seen room w h ∙ rw (lt-leb k (seen + w % 2 + room) q) (omega arith)
 
-pub hits-cons : (n w : ℕ) → 0 < n → hitsUpTo n w ≡ w % 2 + hitsUpTo (n - 1) (w / 2)
-unfolding hitsUpTo
-hits-cons zero w h = absurd (omega arith)
-hits-cons (suc n) w h = let e : suc n - 1 ≡ n = omega arith in rw e
-
-pub hits-none : (n w : ℕ) → n ≡ 0 → hitsUpTo n w ≡ 0
-unfolding hitsUpTo
-hits-none n w h = rw h
+-- the hits up to an age are the ones among as many digits
+pub hits-ones : (n w : ℕ) → hitsUpTo n w ≡ ones (w % 2 ^ n)
+unfolding hitsUpTo ones onesIn
+hits-ones zero w = let e : w % 1 ≡ 0 = omega arith in rw e
+hits-ones (suc n) w =
+    let e : suc n ≡ n + 1 = omega arith in
+    ap (λ (t : ℕ). w % 2 + t) (hits-ones n (w / 2))
+    ∙ ap (λ (t : ℕ). t + ones (w / 2 % 2 ^ n)) (sym (mod-mod-pow w n 1))
+    ∙ ap (λ (t : ℕ). w % 2 ^ (n + 1) % 2 + ones t) (sym (field w n 1))
+    ∙ sym (ones-step (w % 2 ^ (n + 1)))
+    ∙ ap (λ (t : ℕ). ones (w % 2 ^ t)) (sym e)
 
 -- ---- bounds
 

@@ -1,13 +1,16 @@
 -- Laws of the offset of a reading: two signed numbers, each 2^31 higher, have the same difference.
 use mathlib.Core.Path.{_≡_, refl, sym, ap, _∙_}
-use Prim.Native.Nat.{ℕ, zero, suc, _+_, _-_, _≤_, _<_, _^_}
+use mathlib.Core.Bool.{Bool, true, false, cond}
+use Prim.Native.Nat.{ℕ, zero, suc, _+_, _-_, _*_, _≤_, _<_, _^_}
 use native.Mathlib.Omega.{arith}
 use lib.IntN.{ℤ, pos, negsuc, _+ℤ_, _-ℤ_, negℤ, negℤ-+ℤ, +ℤ-assoc, +ℤ-comm, +ℤ-invr, +ℤ-idl}
 use lib.Signed.{mag}
-use lib.Dec.{ltb}
-use borrow.Author.Tests.{lt-ltb, le-ltb, le-leb}
-use Rattle.monitor.specs.Zone.{minSigma, maxSigma, zoneA1, zoneB1, zoneC1, zoneC2, zoneB2, zoneA2, band, zoneAt, zoneOf}
-use Rattle.monitor.specs.declared.zone.Zoned.the-variants.{Zone}
+use lib.Dec.{leb}
+use borrow.Author.Tests.{lt-ltb, le-ltb, lt-leb, le-leb}
+use Rattle.rules.specs.Bounds.{zoneCount}
+use Rattle.rules.specs.Refusal.{badSigma}
+use Rattle.monitor.specs.Zone.{minSigma, maxSigma, zoneS, zoneA1, zoneB1, zoneC1, zoneC2, zoneB2, zoneA2, band, zoneAt, zoneOf}
+use Rattle.monitor.specs.declared.zone.Zoned.the-variants.{Zone, Refused}
 
 -- a signed number of 32 bits, 2^31 higher, is no number below 0
 pub raised : (z : ℤ) → mag z < 2 ^ 31 → (n : ℕ) × (z +ℤ pos 2147483648 ≡ pos n) × (n < 2 ^ 32)
@@ -34,17 +37,45 @@ at-above a zero sigma h = let e : a + 0 ≡ a - 0 = omega arith in rw e
 at-above a (suc b) sigma h = rw (le-ltb a (suc b) h)
 
 -- a and b are the reading and the centre, 2^31 higher
-module _ (reading centre : ℤ) (a b sigma : ℕ) (low : minSigma ≤ sigma) (high : sigma ≤ maxSigma)
-    (ea : pos a ≡ reading +ℤ pos 2147483648) (eb : pos b ≡ centre +ℤ pos 2147483648) where
-  zone-at : zoneOf reading centre sigma ≡ Zone (zoneAt (pos a -ℤ pos b) sigma)
-  unfolding zoneOf
-  zone-at = simp (le-leb minSigma sigma low, le-leb sigma maxSigma high) (ap (λ (t : ℤ). Zone (zoneAt t sigma)) (
+module _ (reading centre : ℤ) (a b sigma : ℕ) (ea : pos a ≡ reading +ℤ pos 2147483648) (eb : pos b ≡ centre +ℤ pos 2147483648) where
+  offset : reading -ℤ centre ≡ pos a -ℤ pos b
+  offset =
       sym (same-difference reading centre (pos 2147483648))
       ∙ sym (ap (λ (t : ℤ). t -ℤ (centre +ℤ pos 2147483648)) ea)
-      ∙ sym (ap (λ (t : ℤ). pos a -ℤ t) eb)))
+      ∙ sym (ap (λ (t : ℤ). pos a -ℤ t) eb)
 
-  pub zone-below : a < b → zoneOf reading centre sigma ≡ Zone (band sigma (b - a) zoneC2 zoneB2 zoneA2)
-  zone-below h = zone-at ∙ ap Zone (at-below a b sigma h)
+  pub zone-below : a < b → zoneAt (reading -ℤ centre) sigma ≡ band sigma (b - a) zoneC2 zoneB2 zoneA2
+  zone-below h = ap (λ (t : ℤ). zoneAt t sigma) offset ∙ at-below a b sigma h
 
-  pub zone-above : b ≤ a → zoneOf reading centre sigma ≡ Zone (band sigma (a - b) zoneC1 zoneB1 zoneA1)
-  zone-above h = zone-at ∙ ap Zone (at-above a b sigma h)
+  pub zone-above : b ≤ a → zoneAt (reading -ℤ centre) sigma ≡ band sigma (a - b) zoneC1 zoneB1 zoneA1
+  zone-above h = ap (λ (t : ℤ). zoneAt t sigma) offset ∙ at-above a b sigma h
+
+-- ---- the zone by sigma
+
+module _ (reading centre : ℤ) (sigma : ℕ) where
+  pub zone-within : minSigma ≤ sigma → sigma ≤ maxSigma → zoneOf reading centre sigma ≡ Zone (zoneAt (reading -ℤ centre) sigma)
+  unfolding zoneOf
+  zone-within low high = rw (le-leb minSigma sigma low, le-leb sigma maxSigma high)
+
+  pub zone-low : sigma < minSigma → zoneOf reading centre sigma ≡ Refused badSigma
+  unfolding zoneOf
+  zone-low h = rw (lt-leb minSigma sigma h)
+
+  pub zone-high : maxSigma < sigma → zoneOf reading centre sigma ≡ Refused badSigma
+  unfolding zoneOf
+  zone-high h = rw (le-leb minSigma sigma (omega arith), lt-leb sigma maxSigma h)
+
+-- ---- every offset has a zone that exists
+
+band-below : (sigma distance one two three : ℕ) → one < zoneCount → two < zoneCount → three < zoneCount → band sigma distance one two three < zoneCount
+band-below sigma distance one two three p q r = go (leb distance sigma) (leb distance (2 * sigma)) (leb distance (3 * sigma))
+  where
+    go : (x y z : Bool) → cond x one (cond y two (cond z three zoneS)) < zoneCount
+    go true y z = p
+    go false true z = q
+    go false false true = r
+    go false false false = omega arith
+
+pub zone-exists : (t : ℤ) (sigma : ℕ) → zoneAt t sigma < zoneCount
+zone-exists (pos n) sigma = band-below sigma n zoneC1 zoneB1 zoneA1 (omega arith) (omega arith) (omega arith)
+zone-exists (negsuc n) sigma = band-below sigma (suc n) zoneC2 zoneB2 zoneA2 (omega arith) (omega arith) (omega arith)

@@ -8,7 +8,7 @@ ghost use Prim.Native.Nat.{_≤_, _<_};
 ghost use Rattle.rules.specs.Bounds.{zoneCount, maxRules};
 ghost use Rattle.rules.specs.Check.{activeRules};
 ghost use Rattle.rules.specs.InBounds.{AllInBounds};
-ghost use Rattle.monitor.specs.State.{moveOf};
+ghost use Rattle.monitor.specs.State.{validState, moveOf};
 ghost use Rattle.monitor.specs.Step.{maxCount, acceptedStep, freshMonitor, stepOf};
 ghost use Rattle.monitor.specs.Take.{takenOf};
 
@@ -54,8 +54,8 @@ pub fn move_of(list: RuleList, state: u64, zone: u32) -> Move
     requires { ⌜ (list .len ≤ maxRules) × AllInBounds (activeRules list) × (zone < zoneCount) ⌝ }
     ensures { λ r. ⌜ r ≡ moveOf (activeRules list) state zone ⌝ }
 {
-    if state::mask(list, 0, state, zone) == 0 {
-        Move::Quiet(state::next_state(list, 0, state, zone))
+    if state::mask(list, state, zone) == 0 {
+        Move::Quiet(state::next_state(list, state, zone))
     } else {
         Move::Signal
     }
@@ -72,6 +72,14 @@ impl Monitor {
         Monitor { state: 0, count: 0 }
     }
 
+    // Whether the monitor can be given with rules that are accepted.
+    pub fn valid(self, list: RuleList) -> bool
+        requires { ⌜ (list .len ≤ maxRules) × AllInBounds (activeRules list) ⌝ }
+        ensures { λ t. ⌜ t ≡ validState (self .count) (activeRules list) (self .state) ⌝ }
+    {
+        state::valid_state(list, self.count, self.state)
+    }
+
     // One point, for rules that are accepted, a zone that exists and a count that is not full.
     pub fn take(self, list: RuleList, zone: u32) -> Taken
         requires { ⌜ (list .len ≤ maxRules) × AllInBounds (activeRules list) × (zone < zoneCount) × (self .count < maxCount) ⌝ }
@@ -79,14 +87,14 @@ impl Monitor {
     {
         let state = self.state;
         let points = self.count;
-        let mask = state::mask(list, 0, state, zone);
+        let mask = state::mask(list, state, zone);
         if mask != 0 {
             return Taken {
                 mask,
                 next: Monitor { state: 0, count: 0 },
             };
         }
-        let next = state::next_state(list, 0, state, zone);
+        let next = state::next_state(list, state, zone);
         let count = points + 1;
         Taken {
             mask,
@@ -105,14 +113,13 @@ impl Monitor {
                 place: 0,
             });
         }
-        let state = self.state;
-        let points = self.count;
-        if !state::valid_state(list, points, state) {
+        if !self.valid(list) {
             return Step::Refused(Refusal {
                 number: Refusal::STATE,
                 place: 0,
             });
         }
+        let points = self.count;
         if points >= Monitor::MAX_COUNT {
             return Step::Refused(Refusal {
                 number: Refusal::COUNT,
@@ -120,19 +127,13 @@ impl Monitor {
             });
         }
         let count = points + 1;
-        let mask = state::mask(list, 0, state, zone);
+        let taken = self.take(list, zone);
+        let mask = taken.mask;
+        let next = taken.next;
         if mask != 0 {
-            return Step::Signal {
-                count,
-                mask,
-                next: Monitor { state: 0, count: 0 },
-            };
+            return Step::Signal { count, mask, next };
         }
-        let next = state::next_state(list, 0, state, zone);
-        Step::Quiet {
-            count,
-            next: Monitor { state: next, count },
-        }
+        Step::Quiet { count, next }
     }
 
     // One point: refused by 2, 3, 4; 6; 5; 7, in this order; else quiet or signal.

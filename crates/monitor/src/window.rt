@@ -10,7 +10,7 @@ ghost use Rattle.rules.specs.ZoneSet.{inZoneSet};
 ghost use Rattle.monitor.specs.Window.{maxAge, windowBase, hitsUpTo, live, nextWindow, windowHolds, validWindow};
 
 // The oldest age that any rule can remember, and the number of different windows.
-const MAX_AGE: u32 = RuleList::MAX_WINDOW - 1;
+pub(crate) const MAX_AGE: u32 = RuleList::MAX_WINDOW - 1;
 
 pub(crate) const BASE: u64 = 1 << MAX_AGE;
 
@@ -22,7 +22,8 @@ fn hit(zones: u32, zone: u32) -> u64
     ((zones >> zone) % 2) as u64
 }
 
-// The live hits of a window whose first age has `seen` newer hits and leaves the last m after `room` more points.
+// The live hits of a window whose first age has `seen` newer hits and leaves the last m after `room` more points. Where the first age's hit
+// is not live, no older one is.
 fn live_hits(k: u64, seen: u64, room: u64, window: u64) -> u64
     requires { ⌜ (seen + room ≤ 2 * maxAge) × (window < 2 * windowBase) ⌝ }
     ensures { λ n. ⌜ n ≡ live k seen room window ⌝ }
@@ -31,11 +32,10 @@ fn live_hits(k: u64, seen: u64, room: u64, window: u64) -> u64
         return 0;
     }
     let b = window % 2;
-    let older = live_hits(k, seen + b, room - 1, window / 2);
     if k <= seen + b + room {
-        b + 2 * older
+        b + 2 * live_hits(k, seen + b, room - 1, window / 2)
     } else {
-        2 * older
+        0
     }
 }
 
@@ -43,15 +43,7 @@ fn live_hits(k: u64, seen: u64, room: u64, window: u64) -> u64
 fn hits(window: u64) -> u64
     ensures { λ n. ⌜ n ≡ hitsUpTo maxAge window ⌝ }
 {
-    let mut older = window;
-    let mut sum = 0;
-    let mut ages: u64 = MAX_AGE as u64;
-    while ages > 0 {
-        sum += older % 2;
-        older = older / 2;
-        ages -= 1;
-    }
-    sum
+    u64::count_ones(window % BASE) as u64
 }
 
 // The window with one more point in it, and what is then remembered.

@@ -2,8 +2,8 @@
 use rules::Refusal;
 ghost use mathlib.Core.Path.{_≡_};
 ghost use Prim.Native.Nat.{_+_, _≤_, _<_};
-ghost use lib.IntN.{pos, _+ℤ_};
-ghost use Rattle.monitor.specs.Zone.{zoneOf, band, maxSigma};
+ghost use lib.IntN.{pos, _+ℤ_, _-ℤ_};
+ghost use Rattle.monitor.specs.Zone.{zoneOf, zoneAt, band, maxSigma};
 
 pub enum Zoned {
     Zone(u32),
@@ -57,6 +57,20 @@ fn band_of(sigma: u32, distance: u64, one: u32, two: u32, three: u32) -> u32
     Zoned::S
 }
 
+// The zone of a reading where sigma is within its bounds.
+pub fn zone_at(reading: i32, centre: i32, sigma: u32) -> u32
+    requires { ⌜ sigma ≤ maxSigma ⌝ }
+    ensures { λ z. ⌜ z ≡ zoneAt (reading -ℤ centre) sigma ⌝ }
+{
+    let at = biased(reading);
+    let middle = biased(centre);
+    if at < middle {
+        band_of(sigma, middle - at, Zoned::C2, Zoned::B2, Zoned::A2)
+    } else {
+        band_of(sigma, at - middle, Zoned::C1, Zoned::B1, Zoned::A1)
+    }
+}
+
 // The zone of a reading on a chart with this centre and sigma: refused by 1 where sigma is out of bounds.
 pub fn zone_of(reading: i32, centre: i32, sigma: u32) -> Zoned
     ensures { λ z. ⌜ z ≡ zoneOf reading centre sigma ⌝ }
@@ -73,11 +87,5 @@ pub fn zone_of(reading: i32, centre: i32, sigma: u32) -> Zoned
             place: 0,
         });
     }
-    let at = biased(reading);
-    let middle = biased(centre);
-    if at < middle {
-        Zoned::Zone(band_of(sigma, middle - at, Zoned::C2, Zoned::B2, Zoned::A2))
-    } else {
-        Zoned::Zone(band_of(sigma, at - middle, Zoned::C1, Zoned::B1, Zoned::A1))
-    }
+    Zoned::Zone(zone_at(reading, centre, sigma))
 }

@@ -15,6 +15,7 @@ use Rattle.rules.specs.Check.{activeRules, checkOf, within}
 use Rattle.rules.specs.CheckLaws.{accepted}
 use Rattle.rules.specs.Refusal.{badSigma}
 use Rattle.monitor.specs.Zone.{minSigma, maxSigma}
+use Rattle.monitor.specs.ZoneLaws.{zone-exists}
 use Rattle.monitor.specs.Step.{maxCount, freshMonitor}
 use Rattle.monitor.specs.Calls.{refusalNumber, EachAnswer, ZonesExist}
 use Rattle.monitor.specs.Agreement.{no-refused-call}
@@ -31,7 +32,6 @@ use Rattle.report.specs.declared.ReportAnswer.the-variants.{Written, Ref
 use Rattle.report.specs.Printed.{report, reportOf}
 use Rattle.report.specs.PrintedLaws.{as-refused, as-written}
 use Rattle.report.specs.Points.{zonesOf, pointsBytes}
-use Rattle.report.specs.PointsLaws.{zone-exists}
 use Rattle.report.specs.MonitorReport.{readingAnswers, checkedBy, chartPrinted, monitorPrinted}
 
 -- ---- the points' answers

@@ -1,18 +1,16 @@
--- Laws of the points' lines: zones exist, one answer more, and the turns of the loop over the point lines.
-use Prim.Native.Nat.{ℕ, zero, suc, _+_, _*_, _≤_, _<_}
+-- Laws of the points' lines: one answer more, and the turns of the loop over the point lines.
+use Prim.Native.Nat.{ℕ, zero, suc, _+_, _*_, _≤_}
 use mathlib.Core.Path.{_≡_, refl, sym, ap, _∙_}
 use mathlib.Core.Bool.{Bool, true, false, cond}
 use mathlib.Core.List.{List, [], _∷_, _++_, append-assoc, append-nil}
 use native.Mathlib.Omega.{arith}
-use lib.Dec.{leb, eqb}
+use lib.Dec.{eqb}
 use lib.ListN.{length, length-append}
-use lib.IntN.{ℤ, pos, negsuc, _-ℤ_}
-use borrow.Author.Tests.{le-leb, eq-eqb, ne-eqb}
+use lib.IntN.{ℤ, _-ℤ_}
+use borrow.Author.Tests.{eq-eqb, ne-eqb}
 use Rattle.rules.specs.declared.Rule.{Rule}
-use Rattle.rules.specs.Bounds.{zoneCount}
 use Rattle.monitor.specs.declared.Monitor.{Monitor}
-use Rattle.monitor.specs.declared.zone.Zoned.the-variants.{Zone}
-use Rattle.monitor.specs.Zone.{minSigma, maxSigma, zoneOf, zoneA1, zoneB1, zoneC1, zoneC2, zoneB2, zoneA2, zoneAt}
+use Rattle.monitor.specs.Zone.{zoneAt}
 use Rattle.monitor.specs.State.{stateMask, nextState}
 use Rattle.monitor.specs.Step.{monitorAt, freshMonitor}
 use Rattle.monitor.specs.declared.Taken.{Taken}
@@ -30,27 +28,9 @@ use Rattle.parse.specs.Readings.{readingsAt}
 use Rattle.print.specs.Monitor.{quietLine, signalLine, totalLine, signalRoom}
 use Rattle.report.specs.Points.{zonesOf, lineOf, answerLines, oneSignal, signalsIn, pointsBytes}
 
--- ---- zones exist
-
-band-exists : (a b c : Bool) (x y z n : ℕ) → x < n → y < n → z < n → 0 < n → cond a x (cond b y (cond c z 0)) < n
-band-exists true b c x y z n p q r o = p
-band-exists false true c x y z n p q r o = q
-band-exists false false true x y z n p q r o = r
-band-exists false false false x y z n p q r o = o
-
-pub zone-exists : (t : ℤ) (sigma : ℕ) → zoneAt t sigma < zoneCount
-zone-exists (pos n) sigma = band-exists (leb n sigma) (leb n (2 * sigma)) (leb n (3 * sigma)) zoneC1 zoneB1 zoneA1 zoneCount (omega arith) (omega arith) (omega arith) (omega arith)
-zone-exists (negsuc n) sigma = band-exists (leb (suc n) sigma) (leb (suc n) (2 * sigma)) (leb (suc n) (3 * sigma)) zoneC2 zoneB2 zoneA2 zoneCount (omega arith) (omega arith) (omega arith) (omega arith)
-
--- with sigma in its bounds a reading has a zone
-pub zone-is : (x centre : ℤ) (sigma : ℕ) → minSigma ≤ sigma → sigma ≤ maxSigma → zoneOf x centre sigma ≡ Zone (zoneAt (x -ℤ centre) sigma)
-unfolding zoneOf
-zone-is x centre sigma low high = rw (le-leb minSigma sigma low, le-leb sigma maxSigma high)
-
--- the same of numbers that are equal to them
-pub zone-given : {x x′ centre centre′ : ℤ} → x′ ≡ x → centre′ ≡ centre → (sigma : ℕ) → minSigma ≤ sigma → sigma ≤ maxSigma
-    → zoneOf x′ centre′ sigma ≡ Zone (zoneAt (x -ℤ centre) sigma)
-zone-given {x} {x′} {centre} {centre′} ex ec sigma low high = rw (ex, ec) (zone-is x centre sigma low high)
+-- the zone of numbers that are equal to these
+pub zone-given : {x x′ centre centre′ : ℤ} → x′ ≡ x → centre′ ≡ centre → (sigma : ℕ) → zoneAt (x′ -ℤ centre′) sigma ≡ zoneAt (x -ℤ centre) sigma
+zone-given ex ec sigma = rw (ex, ec)
 
 -- ---- the line of a mask
 

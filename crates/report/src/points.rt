@@ -1,7 +1,6 @@
 // The lines of a text's points, read again one by one.
 use monitor::Monitor;
-use monitor::zone::Zoned;
-use monitor::zone::zone_of;
+use monitor::zone::zone_at;
 use print::put_quiet;
 use print::put_signal;
 use print::put_total;
@@ -10,14 +9,13 @@ use text::Line;
 use text::read_line;
 ghost use mathlib.Core.Path.{_≡_};
 ghost use mathlib.Core.Bool.{cond};
-ghost use Prim.Native.Nat.{_+_, _*_, _≤_, _<_};
+ghost use Prim.Native.Nat.{_+_, _*_, _≤_};
 ghost use lib.Dec.{eqb};
-ghost use lib.IntN.{_-ℤ_};
 ghost use lib.ListN.{length};
-ghost use Rattle.rules.specs.Bounds.{zoneCount, maxRules};
+ghost use Rattle.rules.specs.Bounds.{maxRules};
 ghost use Rattle.rules.specs.Check.{activeRules};
 ghost use Rattle.rules.specs.InBounds.{AllInBounds};
-ghost use Rattle.monitor.specs.Zone.{minSigma, maxSigma, zoneAt};
+ghost use Rattle.monitor.specs.Zone.{minSigma, maxSigma};
 ghost use Rattle.monitor.specs.Step.{freshMonitor};
 ghost use Rattle.monitor.specs.Take.{answerBy, takenAnswers};
 ghost use Rattle.text.specs.Wrote.{Wrote};
@@ -30,18 +28,6 @@ ghost use Rattle.report.specs.Points.{zonesOf, lineOf, pointsBytes};
 pub(crate) struct Chart {
     pub(crate) centre: i32,
     pub(crate) sigma: u32,
-}
-
-// The zone of a reading on a chart whose sigma is in its bounds.
-fn zone_on(reading: i32, chart: Chart) -> u32
-    requires { ⌜ (minSigma ≤ chart .sigma) × (chart .sigma ≤ maxSigma) ⌝ }
-    ensures { λ z. ⌜ z ≡ zoneAt (reading -ℤ chart .centre) (chart .sigma) ⌝ }
-    ensures { λ z. ⌜ z < zoneCount ⌝ }
-{
-    match zone_of(reading, chart.centre, chart.sigma) {
-        Zoned::Zone(z) => z,
-        Zoned::Refused(_) => 0,
-    }
 }
 
 // 1 for a signal, else 0.
@@ -87,7 +73,7 @@ pub(crate) fn put_points(
         let Line::Point { reading, next } = read_line(text, i) else {
             return put_total(out, end, points, signals);
         };
-        let zone = zone_on(reading, chart);
+        let zone = zone_at(reading, chart.centre, chart.sigma);
         let count = monitor.count + 1;
         let taken = monitor.take(list, zone);
         let mask = taken.mask;

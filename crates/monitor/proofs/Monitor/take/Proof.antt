@@ -1,12 +1,10 @@
 -- `Monitor::take` meets its contract: by the mask, which is 0 or not.
 use mathlib.Core.Path.{_≡_, sym, ap, _∙_}
-use Prim.Native.Nat.{ℕ, _+_, _-_}
+use Prim.Native.Nat.{ℕ, _+_}
 use native.Mathlib.Omega.{arith}
 use Rattle.rules.specs.Check.{activeRules}
 use Rattle.monitor.specs.State.{stateMask, nextState}
 use Rattle.monitor.specs.Step.{monitorAt, freshMonitor}
-use Rattle.monitor.specs.Take.{takenBy}
-use Rattle.monitor.specs.declared.Taken.{Taken}
 use Rattle.monitor.specs.StepLaws.{take-signal, take-quiet}
 use borrow.Author.Needs.{needs}
 use Rattle.monitor.proofs.Monitor.take.Statement.{statement}
@@ -19,16 +17,11 @@ returns : tie.Need-returns
 returns c =
     let a = c .before .before .args in
     let rs = activeRules (a .list) in
-    let e : a .list .len - 0 ≡ a .list .len = omega arith in
-    let mask : c .before .mask .result ≡ stateMask rs (a .self .state) (a .zone) = rw e at (c .before .mask .ensures) in
+    let mask : c .before .mask .result ≡ stateMask rs (a .self .state) (a .zone) = c .before .mask .ensures in
     ap (λ (t : ℕ). record { mask = t; next = freshMonitor }) mask ∙ sym (take-signal rs (a .self) (a .zone) (λ z. omega arith))
 
 next-state-requires : tie.Need-next-state-requires
-next-state-requires c κs =
-    let start = c .before .before in
-    let l = start .args .list in
-    let e : l .len - 0 ≡ l .len = omega arith in
-    (omega arith, omega arith, rw e (start .pre .1))
+next-state-requires c κs = search needs
 
 add-count : tie.Need-add-count
 add-count c = search needs
@@ -38,10 +31,9 @@ returns-2 c =
     let found = c .before .before in
     let a = found .before .args in
     let rs = activeRules (a .list) in
-    let e : a .list .len - 0 ≡ a .list .len = omega arith in
-    let mask : found .mask .result ≡ stateMask rs (a .self .state) (a .zone) = rw e at (found .mask .ensures) in
+    let mask : found .mask .result ≡ stateMask rs (a .self .state) (a .zone) = found .mask .ensures in
     let zero : found .mask .result ≡ 0 = omega arith in
-    let next : c .next-state .result ≡ nextState rs (a .self .state) (a .zone) = rw e at (c .next-state .ensures) in
+    let next : c .next-state .result ≡ nextState rs (a .self .state) (a .zone) = c .next-state .ensures in
     ap (λ (t : ℕ). record { mask = t; next = monitorAt (c .next-state .result) (a .self .count + 1) }) zero
     ∙ ap (λ (t : ℕ). record { mask = 0; next = monitorAt t (a .self .count + 1) }) next
     ∙ sym (take-quiet rs (a .self) (a .zone) (omega arith))

@@ -1,8 +1,9 @@
--- `window::live_hits` meets its contract.
+-- `window::live_hits` meets its contract. The room falls at each call.
 use borrow.Author.Needs.{needs}
 use native.Mathlib.Omega.{arith}
 use Prim.Native.Nat.{ℕ, _<_, _+_, _-_, _/_, _%_}
-use Rattle.monitor.specs.WindowLaws.{live-none, live-stays, live-goes, live-le}
+use Rattle.monitor.specs.WindowLaws.{live-none, live-stays, live-le}
+use Rattle.monitor.specs.ForgetLaws.{live-ends}
 use borrow.Fn.Kinds.{In}
 use borrow.Fn.PlainCycle.{Measures, is, falls, and}
 use Rattle.monitor.proofs.window.live_hits.Reads as live-hits
@@ -18,44 +19,76 @@ abbrev live-hits-at : ℕ → In 0 live-hits-kinds.ps
 live-hits-at t = and 0 live-hits-kinds.ps (is 0 live-hits-kinds.ps μ-live-hits t) live-hits.Pre
 
 abbrev live-hits-below : ℕ → In 0 live-hits-kinds.ps
-live-hits-below t = and 0 live-hits-kinds.ps (falls 0 live-hits-kinds.ps _<_ μ-live-hits t) live-hits.Pre
+live-hits-below t =
+    and 0 live-hits-kinds.ps (falls 0 live-hits-kinds.ps _<_ μ-live-hits t) live-hits.Pre
 
-live-hits-returns : (t : ℕ) → live-hits-lts.Need-returns (live-hits-below t, live-hits.Post) (live-hits-at t) live-hits.Post
+live-hits-returns :
+    (t : ℕ) →
+    live-hits-lts.Need-returns (live-hits-below t, live-hits.Post) (live-hits-at t) live-hits.Post
 live-hits-returns t c = let a = c .before .args in omega (arith, live-none (a .k) (a .seen) (a .room) (a .window) (omega arith))
 
-live-hits-add-kept : (t : ℕ) → live-hits-lts.Need-add-live-hits (live-hits-below t, live-hits.Post) (live-hits-at t) live-hits.Post
-live-hits-add-kept t c = search needs
-
-live-hits-sub-kept : (t : ℕ) → live-hits-lts.Need-sub-live-hits (live-hits-below t, live-hits.Post) (live-hits-at t) live-hits.Post
-live-hits-sub-kept t c = search needs
-
-live-hits-kept-requires :
-    (t : ℕ) → live-hits-lts.Need-live-hits-requires (live-hits-below t, live-hits.Post) (live-hits-at t) live-hits.Post
-live-hits-kept-requires t c κs = search needs
-
-live-hits-add-if2 : (t : ℕ) → live-hits-lts.Need-add-if2 (live-hits-below t, live-hits.Post) (live-hits-at t) live-hits.Post
+live-hits-add-if2 :
+    (t : ℕ) →
+    live-hits-lts.Need-add-if2 (live-hits-below t, live-hits.Post) (live-hits-at t) live-hits.Post
 live-hits-add-if2 t c = search needs
 
-live-hits-add-if2-2 : (t : ℕ) → live-hits-lts.Need-add-if2-2 (live-hits-below t, live-hits.Post) (live-hits-at t) live-hits.Post
+live-hits-add-if2-2 :
+    (t : ℕ) →
+    live-hits-lts.Need-add-if2-2
+    (live-hits-below t, live-hits.Post)
+    (live-hits-at t)
+    live-hits.Post
 live-hits-add-if2-2 t c = search needs
 
+live-hits-add-live-hits : (t : ℕ) → live-hits-lts.Need-add-live-hits (
+  live-hits-below t,
+  live-hits.Post,
+) (live-hits-at t) live-hits.Post
+live-hits-add-live-hits t c = search needs
+
+live-hits-sub-live-hits : (t : ℕ) → live-hits-lts.Need-sub-live-hits (
+  live-hits-below t,
+  live-hits.Post,
+) (live-hits-at t) live-hits.Post
+live-hits-sub-live-hits t c = search needs
+
+live-hits-live-hits-requires : (t : ℕ) → live-hits-lts.Need-live-hits-requires (
+  live-hits-below t,
+  live-hits.Post,
+) (live-hits-at t) live-hits.Post
+live-hits-live-hits-requires t c κs = search needs
+
 live-hits-mul-result :
-    (t : ℕ) → live-hits-lts.Need-mul-result (live-hits-below t, live-hits.Post) (live-hits-at t) live-hits.Post
+    (t : ℕ) →
+    live-hits-lts.Need-mul-result
+    (live-hits-below t, live-hits.Post)
+    (live-hits-at t)
+    live-hits.Post
 live-hits-mul-result t c = let a = c .before .before .before .args in omega (arith, live-le (a .k) (a .seen + a .window % 2) (a .room - 1) (a .window / 2))
 
 live-hits-add-result :
-    (t : ℕ) → live-hits-lts.Need-add-result (live-hits-below t, live-hits.Post) (live-hits-at t) live-hits.Post
+    (t : ℕ) →
+    live-hits-lts.Need-add-result
+    (live-hits-below t, live-hits.Post)
+    (live-hits-at t)
+    live-hits.Post
 live-hits-add-result t c = let a = c .before .before .before .args in omega (arith, live-le (a .k) (a .seen + a .window % 2) (a .room - 1) (a .window / 2))
 
-live-hits-mul-result-2 :
-    (t : ℕ) → live-hits-lts.Need-mul-result-2 (live-hits-below t, live-hits.Post) (live-hits-at t) live-hits.Post
-live-hits-mul-result-2 t c = let a = c .before .before .before .args in omega (arith, live-le (a .k) (a .seen + a .window % 2) (a .room - 1) (a .window / 2))
-
-live-hits-returns-2 : (t : ℕ) → live-hits-lts.Need-returns-2 (live-hits-below t, live-hits.Post) (live-hits-at t) live-hits.Post
+live-hits-returns-2 :
+    (t : ℕ) →
+    live-hits-lts.Need-returns-2
+    (live-hits-below t, live-hits.Post)
+    (live-hits-at t)
+    live-hits.Post
 live-hits-returns-2 t c = let a = c .before .before .before .args in omega (arith, live-stays (a .k) (a .seen) (a .room) (a .window) (omega arith) (omega arith))
 
-live-hits-returns-3 : (t : ℕ) → live-hits-lts.Need-returns-3 (live-hits-below t, live-hits.Post) (live-hits-at t) live-hits.Post
-live-hits-returns-3 t c = let a = c .before .before .before .args in omega (arith, live-goes (a .k) (a .seen) (a .room) (a .window) (omega arith) (omega arith))
+live-hits-returns-3 :
+    (t : ℕ) →
+    live-hits-lts.Need-returns-3
+    (live-hits-below t, live-hits.Post)
+    (live-hits-at t)
+    live-hits.Post
+live-hits-returns-3 t c = let a = c .before .before .args in omega (arith, live-ends (a .k) (a .seen) (a .room) (a .window) (omega arith) (omega arith))
 
 pub +live-hits-spec : {M : Type 1} → statement M
 +live-hits-spec =
@@ -66,13 +99,12 @@ pub +live-hits-spec : {M : Type 1} → statement M
     (live-hits-at t)
     live-hits.Post
     (live-hits-returns t)
-    (live-hits-add-kept t)
-    (live-hits-sub-kept t)
-    (live-hits-kept-requires t)
     (live-hits-add-if2 t)
     (live-hits-add-if2-2 t)
+    (live-hits-add-live-hits t)
+    (live-hits-sub-live-hits t)
+    (live-hits-live-hits-requires t)
     (live-hits-mul-result t)
     (live-hits-add-result t)
-    (live-hits-mul-result-2 t)
     (live-hits-returns-2 t)
     (live-hits-returns-3 t)

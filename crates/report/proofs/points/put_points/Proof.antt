@@ -1,15 +1,15 @@
 -- `points::put_points` meets its contract. The invariant: the points charted and written, and what is left to read.
 use Prim.Native.Nat.{_-_}
-use mathlib.Core.Path.{_≡_, sym, ap, _∙_}
-use lib.IntN.{ℤ, _-ℤ_}
+use mathlib.Core.Path.{_≡_, sym, _∙_}
+use lib.IntN.{_-ℤ_}
 use mir.Val.{toZ, ofZ}
 use mir.Syntax.{w32}
 use native.Mathlib.Omega.{arith}
 use lib.ListN.{length}
 use borrow.Author.Needs.{needs}
 use Rattle.rules.specs.Check.{activeRules}
-use Rattle.monitor.specs.Zone.{zoneAt}
-use Rattle.report.specs.PointsLaws.{Charted, signal-le, charted-start, point-ahead, points-left, charted-more, charted-done}
+use Rattle.monitor.specs.ZoneLaws.{zone-exists}
+use Rattle.report.specs.PointsLaws.{Charted, zone-given, signal-le, charted-start, point-ahead, points-left, charted-more, charted-done}
 use Rattle.report.proofs.points.put_points.Statement.{statement}
 use Rattle.report.proofs.points.put_points.Tie as tie
 
@@ -44,18 +44,27 @@ returns c =
     let k = t .before .before .before in
     charted-done (k .before .loop .inv) _ (k .read-line .ensures) (t .before .before .match .keys2) _ (t .put-total .ensures .0)
 
-zone-on-requires : tie.Need-zone-on-requires Inv-loop μ-loop
-zone-on-requires c κs = search needs
+zone-at-requires : tie.Need-zone-at-requires Inv-loop μ-loop
+zone-at-requires c κs = search needs
 
 add-count : tie.Need-add-count Inv-loop μ-loop
 add-count c = search needs
 
 take-requires : tie.Need-take-requires Inv-loop μ-loop
-take-requires c κs = search needs
+take-requires c κs =
+    let z = c .before in
+    let start = z .before .before .before .before .before .before .before .before .before .before in
+    let u = z .before .before .before .before .before .before .loop .inv in
+    let k = z .before .before .before in
+    let chart = start .args .chart in
+    let x : toZ w32 (ofZ w32 (k .reading .given .0 .0)) ≡ k .reading .given .0 .0 = search needs in
+    let centre : toZ w32 (ofZ w32 (chart .centre)) ≡ chart .centre = search needs in
+    let zone = z .zone-at .ensures ∙ zone-given x centre (chart .sigma) in
+    (start .pre .0 .0, start .pre .0 .1, omega (arith, zone, zone-exists (k .reading .given .0 .0 -ℤ chart .centre) (chart .sigma)), omega (arith, u .counted, u .fit, start .pre .1 .1 .0))
 
 put-answer-requires : tie.Need-put-answer-requires Inv-loop μ-loop
 put-answer-requires c κs =
-    let k = c .before .before .before .before .before in
+    let k = c .before .before .before .before .before .before in
     let l = points-left (k .before .before .before .loop .inv) _ _ (sym (k .before .before .read-line .ensures) ∙ k .reading .given .1) in
     omega (arith, l, k .before .before .before .loop .inv .room, k .before .before .before .loop .inv .size)
 
@@ -64,15 +73,19 @@ one-signal-requires c κs = search needs
 
 add-signals : tie.Need-add-signals Inv-loop μ-loop
 add-signals c =
-    let u = c .before .before .before .before .before .before .before .before .before .before .before .before .loop .inv in
-    omega (arith, u .signalled, u .fit, c .one-signal .ensures, signal-le (c .before .before .before .before .before .take .result .mask))
+    let u = c .before .before .before .before .before .before .before .before .before .before .before .before .before .loop .inv in
+    let start = c .before .before .before .before .before .before .before .before .before .before .before .before .before .before .before .before .before in
+    omega (arith, u .signalled, u .fit, start .pre .1 .1 .0, c .one-signal .ensures, signal-le (c .before .before .before .before .before .take .result .mask))
 
 add-points : tie.Need-add-points Inv-loop μ-loop
-add-points c = search needs
+add-points c =
+    let u = c .before .before .before .before .before .before .before .before .before .before .before .before .before .loop .inv in
+    let start = c .before .before .before .before .before .before .before .before .before .before .before .before .before .before .before .before .before in
+    omega (arith, u .fit, start .pre .1 .1 .0)
 
 loop-less : tie.Need-loop-less Inv-loop μ-loop
 loop-less c =
-    let k = c .before .before .before .before .before .before .before .before .before .before in
+    let k = c .before .before .before .before .before .before .before .before .before .before .before in
     let a = point-ahead _ _ _ _ (sym (k .before .before .read-line .ensures) ∙ k .reading .given .1) in
     omega (arith, a)
 
@@ -81,10 +94,11 @@ loop-again c =
     let w = c .before .before .before .before in
     let t = w .before .before in
     let z = t .before .before in
-    let k = z .before .before in
+    let k = z .before .before .before in
     let chart = k .before .before .before .before .before .before .before .args .chart in
     let x : toZ w32 (ofZ w32 (k .reading .given .0 .0)) ≡ k .reading .given .0 .0 = search needs in
-    let zone = z .zone-on .ensures .0 ∙ ap (λ (t : ℤ). zoneAt (t -ℤ chart .centre) (chart .sigma)) x in
+    let centre : toZ w32 (ofZ w32 (chart .centre)) ≡ chart .centre = search needs in
+    let zone = z .zone-at .ensures ∙ zone-given x centre (chart .sigma) in
     charted-more (k .before .before .before .loop .inv) _ _ (sym (k .before .before .read-line .ensures) ∙ k .reading .given .1) _ zone _ (t .take .ensures) _ _
     (w .put-answer .ensures .0) (w .put-answer .ensures .1) (c .before .one-signal .ensures)
 
@@ -101,7 +115,7 @@ put-points-spec =
     put-total-requires
     same-length
     returns
-    zone-on-requires
+    zone-at-requires
     add-count
     take-requires
     put-answer-requires

@@ -1,0 +1,137 @@
+// A batch of readings on one chart: what the rule list alone decides is decided once.
+use monitor::Monitor;
+use monitor::zone::Zoned;
+use monitor::zone::zone_at;
+use rules::Checked;
+use rules::Refusal;
+use rules::RuleList;
+ghost use mathlib.Core.Path.{_≡_};
+ghost use mathlib.Core.Bool.{true};
+ghost use Prim.Native.Nat.{_≤_};
+ghost use Rattle.rules.specs.declared.Checked.the-variants.{Accepted};
+ghost use Rattle.rules.specs.Check.{activeRules, checkOf};
+ghost use Rattle.monitor.specs.State.{validState};
+ghost use Rattle.monitor.specs.Zone.{minSigma, maxSigma};
+ghost use Rattle.batch.specs.Batch.{noneTaken, batchOf};
+
+// How far the readings were taken. It stopped at a refusal where the refusal's number is not 0: reading `taken` was refused, and not
+// taken. It stopped at a signal where the mask is not 0: the last reading taken is the one that signals. Else all were taken.
+pub struct Batch {
+    pub taken: usize,
+    pub refusal: Refusal,
+    pub count: u32,
+    pub mask: u32,
+    pub next: Monitor,
+}
+
+// The refusal of a batch that refuses nothing.
+const NO_REFUSAL: Refusal = Refusal {
+    number: 0,
+    place: 0,
+};
+
+const BAD_SIGMA: Refusal = Refusal {
+    number: Refusal::SIGMA,
+    place: 0,
+};
+
+const BAD_STATE: Refusal = Refusal {
+    number: Refusal::STATE,
+    place: 0,
+};
+
+const BAD_COUNT: Refusal = Refusal {
+    number: Refusal::COUNT,
+    place: 0,
+};
+
+// The batch where nothing can be refused but for the count.
+fn take_accepted(
+    list: RuleList,
+    monitor: Monitor,
+    centre: i32,
+    sigma: u32,
+    readings: &[i32],
+) -> Batch
+    requires { ⌜ (checkOf list ≡ Accepted) × (minSigma ≤ sigma) × (sigma ≤ maxSigma) × (validState (monitor .count) (activeRules list) (monitor .state) ≡ true) ⌝ }
+    ensures { λ r. ⌜ r ≡ batchOf list monitor centre sigma (now (readings .entry)) ⌝ }
+{
+    let len = readings.len();
+    let mut at = monitor;
+    let mut i: usize = 0;
+    while i < len {
+        let points = at.count;
+        if points >= Monitor::MAX_COUNT {
+            return Batch {
+                taken: i,
+                refusal: BAD_COUNT,
+                count: points,
+                mask: 0,
+                next: at,
+            };
+        }
+        let point = at.take(list, zone_at(readings[i], centre, sigma));
+        let mask = point.mask;
+        let next = point.next;
+        if mask != 0 {
+            return Batch {
+                taken: i + 1,
+                refusal: NO_REFUSAL,
+                count: points + 1,
+                mask,
+                next,
+            };
+        }
+        at = next;
+        i += 1;
+    }
+    Batch {
+        taken: i,
+        refusal: NO_REFUSAL,
+        count: at.count,
+        mask: 0,
+        next: at,
+    }
+}
+
+// No reading taken, for this reason.
+fn none_taken(refusal: Refusal, monitor: Monitor) -> Batch
+    ensures { λ r. ⌜ r ≡ noneTaken refusal monitor ⌝ }
+{
+    Batch {
+        taken: 0,
+        refusal,
+        count: monitor.count,
+        mask: 0,
+        next: monitor,
+    }
+}
+
+// Readings taken one after another until one signals, one is refused, or none is left. A batch of no readings is never refused.
+pub fn take_readings(
+    list: RuleList,
+    monitor: Monitor,
+    centre: i32,
+    sigma: u32,
+    readings: &[i32],
+) -> Batch
+    ensures { λ r. ⌜ r ≡ batchOf list monitor centre sigma (now (readings .entry)) ⌝ }
+{
+    if readings.len() == 0 {
+        return none_taken(NO_REFUSAL, monitor);
+    }
+    let checked = list.check();
+    if let Checked::Refused(refusal) = checked {
+        return none_taken(refusal, monitor);
+    }
+    if sigma < Zoned::MIN_SIGMA {
+        return none_taken(BAD_SIGMA, monitor);
+    }
+    if sigma > Zoned::MAX_SIGMA {
+        return none_taken(BAD_SIGMA, monitor);
+    }
+    if !monitor.valid(list) {
+        return none_taken(BAD_STATE, monitor);
+    }
+    take_accepted(list, monitor, centre, sigma, readings)
+}

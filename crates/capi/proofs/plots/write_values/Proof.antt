@@ -1,0 +1,29 @@
+-- `plots::write_values` meets its contract.
+use borrow.Author.Needs.{needs}
+use Rattle.capi.proofs.plots.write_values.Statement.{statement}
+use Rattle.capi.proofs.plots.write_values.Tie as tie
+
+write-items-requires : tie.Need-write-items-requires
+write-items-requires c κs = search needs
+
+element-write-values : tie.Need-element-write-values
+element-write-values c = search needs
+
+element-write-values-2 : tie.Need-element-write-values-2
+element-write-values-2 c = search needs
+
+element-write-values-3 : tie.Need-element-write-values-3
+element-write-values-3 c = search needs
+
+returns : tie.Need-returns
+returns c = rw (c .write-items .ensures)
+
+pub write-values-spec : {M : Type 1} → statement M
+write-values-spec =
+    tie.close
+    (tie.spec
+    write-items-requires
+    element-write-values
+    element-write-values-2
+    element-write-values-3
+    returns)

@@ -1,0 +1,70 @@
+-- Calls of the zone and of the monitor's step. Definitions.
+use Prim.Native.Nat.{ℕ}
+use mathlib.Core.Path.{_≡_}
+use mathlib.Core.List.{List}
+use lib.IntN.{ℤ}
+use lib.ListN.{getD, set}
+use Rattle.rules.specs.declared.RuleList.{RuleList}
+use Rattle.monitor.specs.declared.zone.Zoned.{Zoned}
+use Rattle.monitor.specs.declared.Monitor.{Monitor}
+use Rattle.monitor.specs.declared.Step.{Step}
+use Rattle.monitor.specs.Zone.{zoneOf}
+use Rattle.monitor.specs.Step.{monitorAt, stepOf}
+use Rattle.capi.specs.Codes.{codeOf}
+
+-- ---- the zone of a reading
+
+abbrev pub zoneCode : Zoned → ℕ
+zoneCode (Zoned.Zone z) = 0
+zoneCode (Zoned.Refused x) = codeOf x
+
+abbrev pub zoneAfter : Zoned → List ℕ → List ℕ
+zoneAfter (Zoned.Zone z) zone = set zone 0 z
+zoneAfter (Zoned.Refused x) zone = zone
+
+pub record ZoneCall (reading centre : ℤ) (sigma : ℕ) (z z′ : List ℕ) (r : ℕ) : Type 0 where
+  pub code : r ≡ zoneCode (zoneOf reading centre sigma)
+  pub zone : z′ ≡ zoneAfter (zoneOf reading centre sigma) z
+
+-- ---- the step
+
+-- the monitor that the caller keeps: a state and the points counted, each in an array of one place
+abbrev pub monitorOf : List ℕ → List ℕ → Monitor
+monitorOf state points = monitorAt (getD state 0 0) (getD points 0 0)
+
+abbrev pub stateAs : Monitor → List ℕ → List ℕ
+stateAs m state = set state 0 (m .state)
+
+abbrev pub pointsAs : Monitor → List ℕ → List ℕ
+pointsAs m points = set points 0 (m .count)
+
+-- the count with the point in it, and the mask, 0 for quiet
+abbrev pub answerAs : ℕ → ℕ → List ℕ → List ℕ
+answerAs count mask answer = set (set answer 0 count) 1 mask
+
+abbrev pub stepCode : Step → ℕ
+stepCode (Step.Refused x) = codeOf x
+stepCode (Step.Quiet count next) = 0
+stepCode (Step.Signal count mask next) = 0
+
+-- the three arrays after a step; a refusal leaves them as they were
+abbrev pub stateAfter : Step → List ℕ → List ℕ
+stateAfter (Step.Refused x) state = state
+stateAfter (Step.Quiet count next) state = stateAs next state
+stateAfter (Step.Signal count mask next) state = stateAs next state
+
+abbrev pub pointsAfter : Step → List ℕ → List ℕ
+pointsAfter (Step.Refused x) points = points
+pointsAfter (Step.Quiet count next) points = pointsAs next points
+pointsAfter (Step.Signal count mask next) points = pointsAs next points
+
+abbrev pub answerAfter : Step → List ℕ → List ℕ
+answerAfter (Step.Refused x) answer = answer
+answerAfter (Step.Quiet count next) answer = answerAs count 0 answer
+answerAfter (Step.Signal count mask next) answer = answerAs count mask answer
+
+pub record StepCall (l : RuleList) (m : Monitor) (z : ℕ) (s p a s′ p′ a′ : List ℕ) (r : ℕ) : Type 0 where
+  pub code : r ≡ stepCode (stepOf l m z)
+  pub state : s′ ≡ stateAfter (stepOf l m z) s
+  pub points : p′ ≡ pointsAfter (stepOf l m z) p
+  pub answer : a′ ≡ answerAfter (stepOf l m z) a

@@ -1,0 +1,71 @@
+-- A call of the plot record. Definitions.
+use Prim.Native.Nat.{ℕ, _+_, _*_}
+use mathlib.Core.Path.{_≡_}
+use mathlib.Core.List.{List}
+use lib.Ieee.{Float}
+use lib.ListN.{set}
+use Rattle.rules.specs.Mask.{bit}
+use Rattle.rules.specs.declared.RuleList.{RuleList}
+use Rattle.plot.specs.declared.PlotItem.{PlotItem}
+use Rattle.plot.specs.declared.PlotItem.the-variants.{Point, Span, Open, Beyond}
+use Rattle.plot.specs.declared.PlotRecord.{PlotRecord}
+use Rattle.plot.specs.declared.BoxPlotAnswer.{BoxPlotAnswer}
+use Rattle.plot.specs.declared.BoxPlotAnswer.the-variants.{Accepted, Refused}
+use Rattle.plot.specs.Plot.{boxPlotOf}
+use Rattle.capi.specs.Codes.{codeOf}
+
+-- 1 for a point, 2 for a span, 3 for open, 4 for beyond
+abbrev pub kindOf : PlotItem → ℕ
+kindOf (Point x) = 1
+kindOf (Span low high) = 2
+kindOf (Open low) = 3
+kindOf (Beyond h) = 4
+
+-- an item's two doubles: a span has two, the others one that stands twice
+abbrev pub firstOf : PlotItem → Float
+firstOf (Point x) = x
+firstOf (Span low high) = low
+firstOf (Open low) = low
+firstOf (Beyond h) = h
+
+abbrev pub secondOf : PlotItem → Float
+secondOf (Point x) = x
+secondOf (Span low high) = high
+secondOf (Open low) = low
+secondOf (Beyond h) = h
+
+abbrev pub itemAs : ℕ → PlotItem → List Float → List Float
+itemAs i item values = set (set values (2 * i) (firstOf item)) (2 * i + 1) (secondOf item)
+
+-- the array of six kinds: one for each of the percentiles 5, 25, 50, 75, 95, and 1 where there is an interquartile range
+abbrev pub kindsAs : PlotRecord → List ℕ → List ℕ
+kindsAs p kinds =
+    set (set (set (set (set (set kinds 0 (kindOf (p .p5))) 1 (kindOf (p .p25))) 2 (kindOf (p .p50))) 3 (kindOf (p .p75))) 4 (kindOf (p .p95))) 5 (bit (p .«has_iqr»))
+
+-- the array of thirteen doubles: two for each percentile, the mean's lower and upper value, the interquartile range
+abbrev pub itemsAs : PlotRecord → List Float → List Float
+itemsAs p values = itemAs 4 (p .p95) (itemAs 3 (p .p75) (itemAs 2 (p .p50) (itemAs 1 (p .p25) (itemAs 0 (p .p5) values))))
+
+abbrev pub valuesAs : PlotRecord → List Float → List Float
+valuesAs p values = set (set (set (itemsAs p values) 10 (p .lower)) 11 (p .upper)) 12 (p .iqr)
+
+abbrev pub plotCode : BoxPlotAnswer → ℕ
+plotCode (Accepted p) = 0
+plotCode (Refused x) = codeOf x
+
+-- a refusal leaves both arrays as they were
+abbrev pub kindsAfter : BoxPlotAnswer → List ℕ → List ℕ
+kindsAfter (Accepted p) kinds = kindsAs p kinds
+kindsAfter (Refused x) kinds = kinds
+
+abbrev pub valuesAfter : BoxPlotAnswer → List Float → List Float
+valuesAfter (Accepted p) values = valuesAs p values
+valuesAfter (Refused x) values = values
+
+-- a call of the plot record: the answer's number, and all that was lent, as they then are
+pub record PlotCall (l : RuleList) (w : List ℕ) (h : ℕ) (p s k : List ℕ) (v : List Float) (p′ s′ k′ : List ℕ) (v′ : List Float) (r : ℕ) : Type 0 where
+  pub code : r ≡ plotCode (boxPlotOf l w h p s .answer)
+  pub pmf-list : p′ ≡ boxPlotOf l w h p s .pmfList
+  pub survival-list : s′ ≡ boxPlotOf l w h p s .survivalList
+  pub kinds : k′ ≡ kindsAfter (boxPlotOf l w h p s .answer) k
+  pub values : v′ ≡ valuesAfter (boxPlotOf l w h p s .answer) v

@@ -1,0 +1,28 @@
+-- A call of a report, by the answer of the operation.
+use mathlib.Core.Path.{_≡_, sym, ap, _∙_}
+use mathlib.Core.List.{List}
+use Prim.Native.Nat.{ℕ}
+use lib.ListN.{length, set}
+use Rattle.rules.specs.declared.Refusal.{Refusal}
+use Rattle.report.specs.declared.ReportAnswer.{ReportAnswer}
+use Rattle.report.specs.declared.ReportAnswer.the-variants.{Written}
+use Rattle.report.specs.Printed.{Printed, lines, refusedBy, Report, report, reportOf}
+use Rattle.capi.specs.Codes.{codeOf}
+use Rattle.capi.specs.ReportCall.{answerCode, answerCount, ReportCall}
+
+-- a is the report's answer
+pub report-call : (p : Printed) (out count out′ count′ : List ℕ) (a : ReportAnswer) (r : ℕ) → report a out′ ≡ reportOf p out
+    → r ≡ answerCode a → count′ ≡ answerCount a count → ReportCall p out count out′ count′ r
+report-call (lines bytes) out count out′ count′ a r e code after =
+    let answer : a ≡ Written (length bytes) = ap (λ (x : Report). x .answer) e in
+    record { code = code ∙ ap answerCode answer; buffer = ap (λ (x : Report). x .buffer) e; bytes = after ∙ ap (λ (x : ReportAnswer). answerCount x count) answer }
+report-call (refusedBy y) out count out′ count′ a r e code after =
+    let answer : a ≡ ReportAnswer.Refused y = ap (λ (x : Report). x .answer) e in
+    record { code = code ∙ ap answerCode answer; buffer = ap (λ (x : Report). x .buffer) e; bytes = after ∙ ap (λ (x : ReportAnswer). answerCount x count) answer }
+
+-- the answer, case by case
+pub written-code : (a : ReportAnswer) (n : ℕ) (count : List ℕ) → a ≡ Written n → (0 ≡ answerCode a) × (set count 0 n ≡ answerCount a count)
+written-code a n count e = (sym (ap answerCode e), sym (ap (λ (x : ReportAnswer). answerCount x count) e))
+
+pub refused-code : (a : ReportAnswer) (x : Refusal) (r : ℕ) (count : List ℕ) → a ≡ ReportAnswer.Refused x → r ≡ codeOf x → (r ≡ answerCode a) × (count ≡ answerCount a count)
+refused-code a x r count e c = (c ∙ sym (ap answerCode e), sym (ap (λ (y : ReportAnswer). answerCount y count) e))

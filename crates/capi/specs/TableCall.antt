@@ -1,0 +1,27 @@
+-- A call of the run-length table. Definitions.
+use Prim.Native.Nat.{ℕ}
+use mathlib.Core.Path.{_≡_}
+use mathlib.Core.List.{List}
+use lib.ListN.{set}
+use Rattle.rules.specs.declared.RuleList.{RuleList}
+use Rattle.table.specs.declared.TableAnswer.{TableAnswer}
+use Rattle.table.specs.declared.TableAnswer.the-variants.{Accepted, Refused}
+use Rattle.table.specs.Table.{tableOf}
+use Rattle.capi.specs.Codes.{codeOf}
+
+-- 0 for an accepted call
+abbrev pub tableCode : TableAnswer → ℕ
+tableCode (Accepted f) = 0
+tableCode (Refused x) = codeOf x
+
+-- what the figures' array of four places then holds: N, left at the horizon, and the cut mean; a refusal leaves it as it was
+abbrev pub figuresAfter : TableAnswer → List ℕ → List ℕ
+figuresAfter (Accepted f) figures = set (set (set (set figures 0 (f .states)) 1 (f .survival)) 2 (f .«mean_whole»)) 3 (f .«mean_fraction»)
+figuresAfter (Refused x) figures = figures
+
+-- a call of the table: the answer's number, and all that was lent, as they then are
+pub record TableCall (l : RuleList) (w : List ℕ) (h : ℕ) (p s f p′ s′ f′ : List ℕ) (r : ℕ) : Type 0 where
+  pub answer : r ≡ tableCode (tableOf l w h p s .answer)
+  pub pmf-list : p′ ≡ tableOf l w h p s .pmfList
+  pub survival-list : s′ ≡ tableOf l w h p s .survivalList
+  pub figures : f′ ≡ figuresAfter (tableOf l w h p s .answer) f

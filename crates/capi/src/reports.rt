@@ -1,0 +1,48 @@
+// The two programs' reports for callers in C and Rust.
+use crate::codes::code;
+use report::ReportAnswer;
+ghost use mathlib.Core.Path.{_≡_};
+ghost use Rattle.report.specs.TableReport.{tablePrinted};
+ghost use Rattle.report.specs.MonitorReport.{monitorPrinted};
+ghost use Rattle.capi.specs.ReportCall.{answerCode, answerCount, ReportCall};
+
+// The code of a report's answer, and its number of bytes in `count`.
+fn report_code(answer: ReportAnswer, count: &mut [u64; 1]) -> u64
+    ensures { λ r. ⌜ (r ≡ answerCode answer) × (now (count .exit) ≡ answerCount answer (now (count .entry))) ⌝ }
+{
+    match answer {
+        ReportAnswer::Refused(r) => code(r),
+        ReportAnswer::Written(n) => {
+            count[0] = n as u64;
+            0
+        }
+    }
+}
+
+// The table program's lines for a text: `report::table_report`. Answers 0, with the lines in `out` and their number of bytes in `count`; or
+// answers the refusal and alters nothing.
+#[no_mangle]
+pub extern "C" fn catrovindy_table_report(
+    text: &[u8],
+    out: &mut [u8; ReportAnswer::TABLE_SIZE],
+    count: &mut [u64; 1],
+) -> u64
+    ensures { λ r. ⌜ ReportCall (tablePrinted (now (text .entry))) (now (out .entry)) (now (count .entry)) (now (out .exit)) (now (count .exit)) r ⌝ }
+{
+    let answer = report::table_report(text, out);
+    report_code(answer, count)
+}
+
+// The monitor program's lines for a text: `report::monitor_report`. Answers 0, with the lines in `out` and their number of bytes in `count`;
+// or answers the refusal and alters nothing.
+#[no_mangle]
+pub extern "C" fn catrovindy_monitor_report(
+    text: &[u8],
+    out: &mut [u8; ReportAnswer::MONITOR_SIZE],
+    count: &mut [u64; 1],
+) -> u64
+    ensures { λ r. ⌜ ReportCall (monitorPrinted (now (text .entry))) (now (out .entry)) (now (count .entry)) (now (out .exit)) (now (count .exit)) r ⌝ }
+{
+    let answer = report::monitor_report(text, out);
+    report_code(answer, count)
+}

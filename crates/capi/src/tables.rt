@@ -1,0 +1,35 @@
+// The run-length table for callers in C and Rust.
+use crate::codes::SLOT_NUMBERS;
+use crate::codes::code;
+use crate::codes::list_of;
+use rules::ZONES;
+use table::TableAnswer;
+ghost use Rattle.capi.specs.Codes.{listOf};
+ghost use Rattle.capi.specs.TableCall.{TableCall};
+
+// The run-length table: `table::run_length_table`. Answers 0 and writes N, left at the horizon and the cut mean's whole part and fraction
+// to `figures`; or answers the refusal and alters nothing.
+#[no_mangle]
+pub extern "C" fn catrovindy_table(
+    slots: &[u32; SLOT_NUMBERS],
+    count: u32,
+    weights: &[u32; ZONES],
+    horizon: u32,
+    pmf: &mut [u64],
+    survival: &mut [u64],
+    figures: &mut [u64; 4],
+) -> u64
+    ensures { λ r. ⌜ TableCall (listOf (now (slots .entry)) count) (now (weights .entry)) horizon (now (pmf .entry)) (now (survival .entry)) (now (figures .entry)) (now (pmf .exit)) (now (survival .exit)) (now (figures .exit)) r ⌝ }
+{
+    let answer = table::run_length_table(list_of(*slots, count), *weights, horizon, pmf, survival);
+    match answer {
+        TableAnswer::Refused(r) => code(r),
+        TableAnswer::Accepted(f) => {
+            figures[0] = f.states as u64;
+            figures[1] = f.survival;
+            figures[2] = f.mean_whole;
+            figures[3] = f.mean_fraction;
+            0
+        }
+    }
+}
