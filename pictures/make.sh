@@ -1,0 +1,18 @@
+#!/usr/bin/env bash
+# Makes the two pictures of the README from the stored outputs in examples/. Needs gnuplot (Debian: package gnuplot-nox).
+set -euo pipefail
+cd "$(dirname "${BASH_SOURCE[0]}")/.."
+
+pictures/draw.sh distribution pictures/distribution.svg \
+  "Western Electric, in control=examples/western-electric-in-control.out" \
+  "Western Electric, shifted by 1 sigma=examples/western-electric-shift-1.out"
+
+pictures/draw.sh boxes pictures/boxes.svg \
+  "R1 alone, in control=examples/shewhart-in-control.out" \
+  "Duncan, in control=examples/duncan-in-control.out" \
+  "Western Electric, in control=examples/western-electric-in-control.out" \
+  "R1 alone, shifted by 1 sigma=examples/shewhart-shift-1.out" \
+  "Duncan, shifted by 1 sigma=examples/duncan-shift-1.out" \
+  "Western Electric, shifted by 1 sigma=examples/western-electric-shift-1.out"
+
+ls pictures/distribution.svg pictures/boxes.svg
