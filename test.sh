@@ -1,6 +1,7 @@
 #!/usr/bin/env bash
 # Proves every crate from nothing, tries every must-fail edit, runs every program; then compares the proved library with a second
-# implementation. The last line is the prover's own count; it is printed only where everything passed.
+# implementation, and runs the examples, the callers in C and Rust, and the README's commands. The last line is the prover's own count; it is
+# printed only where everything passed.
 set -euo pipefail
 cd "$(dirname "$0")"
 
@@ -20,5 +21,8 @@ if ! [[ $verdict =~ ^[0-9]+\ passed,\ 0\ failed$ ]]; then
 fi
 
 bash bench/differential.sh
+bash examples/run.sh | tail -n 1
+bash callers/run.sh
+bash test-readme.sh
 
 echo "$verdict"

@@ -1,4 +1,8 @@
 -- `plots::write_values` meets its contract.
+use mathlib.Core.Path.{ap}
+use mathlib.Core.List.{List}
+use lib.Ieee.{Float}
+use lib.ListN.{set}
 use borrow.Author.Needs.{needs}
 use Rattle.capi.proofs.plots.write_values.Statement.{statement}
 use Rattle.capi.proofs.plots.write_values.Tie as tie
@@ -16,7 +20,9 @@ element-write-values-3 : tie.Need-element-write-values-3
 element-write-values-3 c = search needs
 
 returns : tie.Need-returns
-returns c = rw (c .write-items .ensures)
+returns c =
+    let f = c .before .before .args .found in
+    ap (λ (v : List Float). set (set (set v 10 (f .lower)) 11 (f .upper)) 12 (f .iqr)) (c .write-items .ensures)
 
 pub write-values-spec : {M : Type 1} → statement M
 write-values-spec =
