@@ -3,5 +3,6 @@
 set -euo pipefail
 cd "$(dirname "$0")"
 bash ../library.sh
-cargo run --release --offline --quiet --bin differential
-cargo run --release --offline --quiet --bin texts
+for test in differential plots steps texts; do
+  cargo run --release --offline --quiet --bin "$test"
+done

@@ -1,13 +1,6 @@
 //! The percentile bracket of document 01, with 128-bit products.
 use crate::{refuse, Refusal};
-
-#[derive(Clone, Copy, Debug, PartialEq, Eq)]
-pub enum Bracket {
-    At(u32),
-    Between(u32, u32),
-    Open(u32),
-    Beyond(u32),
-}
+use catrovindy::Bracket;
 
 pub fn bracket(chances: &[u64], n: u32, p: u32) -> Result<Bracket, Refusal> {
     if chances.is_empty() || chances.len() > 65_535 {

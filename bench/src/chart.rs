@@ -11,7 +11,7 @@ pub fn check(rules: &[Rule]) -> Result<(), Refusal> {
         if !(1..=9).contains(&r.m) || r.k < 1 || r.k > r.m {
             return refuse(3, i as u32);
         }
-        if r.z == 0 || r.z > 127 {
+        if r.zones == 0 || r.zones > 127 {
             return refuse(4, i as u32);
         }
     }
@@ -26,26 +26,40 @@ pub fn empty(rules: &[Rule]) -> Standing {
 }
 
 fn in_set(rule: &Rule, zone: usize) -> bool {
-    rule.z >> zone & 1 == 1
+    rule.zones >> zone & 1 == 1
+}
+
+/// Whether a hit of this age is remembered, among a rule's hits: the hits of age 1 to a, plus m - a, are at least k.
+pub fn remembered(rule: &Rule, hits: &[u32], age: u32) -> bool {
+    let newer = hits.iter().filter(|&&b| b <= age).count() as u32;
+    age < rule.m && newer + (rule.m - age) >= rule.k
+}
+
+/// A rule's hits with one more point, the newest first.
+fn with_point(rule: &Rule, ages: &[u32], zone: usize) -> Vec<u32> {
+    let mut hits: Vec<u32> = if in_set(rule, zone) { vec![1] } else { Vec::new() };
+    hits.extend(ages.iter().map(|a| a + 1));
+    hits
+}
+
+/// The mask of the rules that hold with a point.
+pub fn mask(rules: &[Rule], standing: &[Vec<u32>], zone: usize) -> u32 {
+    let holds = |rule: &Rule, ages: &[u32]| with_point(rule, ages, zone).iter().filter(|&&a| a <= rule.m).count() as u32 >= rule.k;
+    rules.iter().zip(standing).enumerate().map(|(i, (rule, ages))| u32::from(holds(rule, ages)) << i).sum()
+}
+
+/// The standing after a point with which no rule holds.
+pub fn after(rules: &[Rule], standing: &[Vec<u32>], zone: usize) -> Standing {
+    let next = |(rule, ages): (&Rule, &Vec<u32>)| {
+        let hits = with_point(rule, ages, zone);
+        hits.iter().copied().filter(|&a| remembered(rule, &hits, a)).collect()
+    };
+    rules.iter().zip(standing).map(next).collect()
 }
 
 /// The standing after a point, or none where some rule holds.
-pub fn point(rules: &[Rule], standing: &Standing, zone: usize) -> Option<Standing> {
-    let mut next = Vec::new();
-    for (rule, ages) in rules.iter().zip(standing) {
-        let mut hits: Vec<u32> = if in_set(rule, zone) { vec![1] } else { Vec::new() };
-        hits.extend(ages.iter().map(|a| a + 1));
-        if hits.iter().filter(|&&a| a <= rule.m).count() as u32 >= rule.k {
-            return None;
-        }
-        let all = hits.clone();
-        hits.retain(|&a| {
-            let newer = all.iter().filter(|&&b| b <= a).count() as u32;
-            a < rule.m && newer + (rule.m - a) >= rule.k
-        });
-        next.push(hits);
-    }
-    Some(next)
+pub fn point(rules: &[Rule], standing: &[Vec<u32>], zone: usize) -> Option<Standing> {
+    (mask(rules, standing, zone) == 0).then(|| after(rules, standing, zone))
 }
 
 /// The standings met with no signal, and where each zone leads from each: none for a signal. Refused by 10 over 1,024.

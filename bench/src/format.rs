@@ -47,5 +47,5 @@ pub fn signed(field: &[u8]) -> Option<i32> {
 /// The rules of the rule lines from the line i on.
 pub fn rules_from(lines: &[&[u8]], i: usize) -> Vec<Rule> {
     let found = lines.iter().skip(i).map_while(|line| numbers(Some(line), "rule", 3));
-    found.map(|rule| Rule { k: rule[0], m: rule[1], z: rule[2] }).collect()
+    found.map(|rule| Rule::new(rule[0], rule[1], rule[2])).collect()
 }

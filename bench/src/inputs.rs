@@ -35,14 +35,14 @@ impl Source {
     pub fn rule(&mut self, longest: u32) -> Rule {
         let m = 1 + self.below(u64::from(longest)) as u32;
         let k = 1 + self.below(u64::from(m)) as u32;
-        let z = 1 + self.below(127) as u32;
-        let mut rule = Rule { k, m, z };
+        let zones = 1 + self.below(127) as u32;
+        let mut rule = Rule { k, m, zones };
         if self.once_in(40) {
             let odd = [0, 8, 9, 10, 127, 128, u32::MAX][self.below(7) as usize];
             match self.below(3) {
                 0 => rule.k = odd,
                 1 => rule.m = odd,
-                _ => rule.z = odd,
+                _ => rule.zones = odd,
             }
         }
         rule
@@ -94,5 +94,16 @@ impl Source {
             3 => 500,
             _ => 1 + self.below(40) as u32,
         }
+    }
+
+    /// Lengths of two lists for a horizon: mostly long enough.
+    pub fn lengths(&mut self, horizon: u32) -> (usize, usize) {
+        let h = (horizon as usize).min(70_000);
+        let mut near = || match self.below(12) {
+            0 => h.saturating_sub(1),
+            1..=4 => h,
+            _ => h + self.below(5) as usize,
+        };
+        (near(), near())
     }
 }

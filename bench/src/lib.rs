@@ -1,39 +1,30 @@
-//! What the tests and benchmarks share: the proved library behind safe functions, a second implementation written from document 01, and
-//! a source of inputs.
+//! What the tests and benchmarks share: a second implementation written from document 01, a source of inputs, and the proved library's
+//! exported functions with a look at all that was lent. The plain types are those of the proved library's Rust layer.
 pub mod bracket;
 pub mod chart;
 pub mod format;
 pub mod inputs;
+pub mod lent;
+pub mod monitor;
 pub mod monitor_program;
-pub mod proved;
+pub mod monitors;
+pub mod plot;
 pub mod ring;
 pub mod table;
 pub mod table_program;
+pub mod tally;
 pub mod texts;
 
-/// A refusal's number and place.
-#[derive(Clone, Copy, Debug, PartialEq, Eq)]
-pub struct Refusal {
-    pub number: u32,
-    pub place: u32,
-}
+pub use catrovindy::{Refusal, Rule};
 
 pub fn refuse<T>(number: u32, place: u32) -> Result<T, Refusal> {
     Err(Refusal { number, place })
 }
 
-/// T(k,m,Z), the set written as the sum of 2^zone.
-#[derive(Clone, Copy, Debug, PartialEq, Eq)]
-pub struct Rule {
-    pub k: u32,
-    pub m: u32,
-    pub z: u32,
-}
-
 pub const ZONES: usize = 7;
 
 pub fn rules(list: &[(u32, u32, u32)]) -> Vec<Rule> {
-    list.iter().map(|&(k, m, z)| Rule { k, m, z }).collect()
+    list.iter().map(|&(k, m, zones)| Rule { k, m, zones }).collect()
 }
 
 pub fn western_electric() -> Vec<Rule> {

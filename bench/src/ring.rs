@@ -19,7 +19,7 @@ impl Ring {
         for (i, rule) in rules.iter().enumerate() {
             let seen = rule.m.min(self.count);
             let hits = (self.count - seen..self.count)
-                .filter(|&at| rule.z >> self.zones[at as usize % PLACES] & 1 == 1)
+                .filter(|&at| rule.zones >> self.zones[at as usize % PLACES] & 1 == 1)
                 .count() as u32;
             if hits >= rule.k {
                 mask |= 1 << i;

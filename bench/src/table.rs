@@ -1,13 +1,6 @@
 //! The run-length table of document 01 with 128-bit sums: a plain push over all moves.
 use crate::{chart, refuse, Refusal, Rule, ZONES};
-
-#[derive(Clone, Debug, PartialEq, Eq)]
-pub struct Figures {
-    pub standings: u64,
-    pub left: u64,
-    pub mean_whole: u64,
-    pub mean_fraction: u64,
-}
+use catrovindy::Figures;
 
 /// The refusals of the table in their order, given the lengths of the two lists.
 pub fn moves_of(
@@ -66,8 +59,8 @@ pub fn rows(
         survival[row] = left;
     }
     Figures {
-        standings: n as u64,
-        left,
+        states: n as u32,
+        survival: left,
         mean_whole: (mean >> 60) as u64,
         mean_fraction: (mean & ((1 << 60) - 1)) as u64,
     }

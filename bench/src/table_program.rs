@@ -1,6 +1,7 @@
 //! The table program of document 01, text in and text out, written from its paragraphs.
 use crate::format::{lines, numbers, rules_from};
-use crate::{bracket, chart, refuse, table, Refusal, Rule, ZONES};
+use crate::{bracket, chart, plot, refuse, table, Refusal, Rule, ZONES};
+use catrovindy::Bracket;
 
 struct TableText {
     weights: [u32; ZONES],
@@ -28,20 +29,19 @@ fn print(text: &TableText) -> Result<String, Refusal> {
     let horizon = if text.horizon > 4_096 { 0 } else { text.horizon };
     let (mut pmf, mut left) = (vec![0u64; horizon as usize], vec![0u64; horizon as usize]);
     let f = table::table(&text.rules, &text.weights, horizon, &mut pmf, &mut left)?;
-    let mut out = format!("standings,{}\nn,chance,by,left\n", f.standings);
+    let mut out = format!("standings,{}\nn,chance,by,left\n", f.states);
     let mut by = 0u64;
     for (i, (chance, left)) in pmf.iter().zip(&left).enumerate() {
         by += chance;
         out += &format!("{},{chance},{by},{left}\n", i + 1);
     }
-    let h = u64::from(horizon);
-    out += &format!("arl,{},{},{}\n", f.mean_whole, f.mean_fraction, f.standings * h * (h - 1) / 2);
+    out += &format!("arl,{},{},{}\n", f.mean_whole, f.mean_fraction, plot::shortfall(f.states, horizon));
     for p in [5, 25, 50, 75, 95] {
-        let answer = match bracket::bracket(&pmf, f.standings as u32, p)? {
-            bracket::Bracket::At(n) => format!("at,{n}"),
-            bracket::Bracket::Between(low, high) => format!("between,{low},{high}"),
-            bracket::Bracket::Open(low) => format!("open,{low}"),
-            bracket::Bracket::Beyond(h) => format!("beyond,{h}"),
+        let answer = match bracket::bracket(&pmf, f.states, p)? {
+            Bracket::At(n) => format!("at,{n}"),
+            Bracket::Between(low, high) => format!("between,{low},{high}"),
+            Bracket::Open(low) => format!("open,{low}"),
+            Bracket::Beyond(h) => format!("beyond,{h}"),
         };
         out += &format!("q,{p},{answer}\n");
     }

@@ -16,7 +16,7 @@ impl Source {
     fn rule_lines(&mut self, text: &mut String, count: u64, longest: u32) {
         for _ in 0..count {
             let r = self.rule(longest);
-            *text += &format!("rule,{},{},{}\n", r.k, r.m, r.z);
+            *text += &format!("rule,{},{},{}\n", r.k, r.m, r.zones);
         }
     }
 

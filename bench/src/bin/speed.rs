@@ -1,31 +1,46 @@
-//! Measures the proved library against the second implementation: the same input, both built for release, in one run.
+//! Measures the proved library against the second implementation: the same input, both built for release, in one run. The two take turns, a
+//! round of one and a round of the other, and the best round of each counts. A ratio is the plain version's time over the proved one's.
 use bench::inputs::Source;
 use bench::monitor_program::monitor_program;
+use bench::ring::{zone, Ring};
 use bench::table_program::table_program;
-use bench::{chart, duncan, large, proved, table, western_electric, Rule, IN_CONTROL, RARE, ZONES};
+use bench::{chart, duncan, large, lent, table, western_electric, Rule, IN_CONTROL, RARE, ZONES};
+use catrovindy::{Monitor, MONITOR_SIZE, TABLE_SIZE};
+use std::hint::black_box;
 use std::time::Instant;
+
+/// How long some work takes, in seconds.
+fn time(work: &mut impl FnMut()) -> f64 {
+    let start = Instant::now();
+    work();
+    start.elapsed().as_secs_f64()
+}
 
 /// The best of some runs, in seconds.
 fn best(runs: u32, mut work: impl FnMut()) -> f64 {
-    (0..runs)
-        .map(|_| {
-            let start = Instant::now();
-            work();
-            start.elapsed().as_secs_f64()
-        })
-        .fold(f64::INFINITY, f64::min)
+    (0..runs).map(|_| time(&mut work)).fold(f64::INFINITY, f64::min)
+}
+
+/// The best rounds of two that take turns, in seconds.
+fn turns(rounds: u32, mut ours: impl FnMut(), mut theirs: impl FnMut()) -> (f64, f64) {
+    (0..rounds).map(|_| (time(&mut ours), time(&mut theirs))).fold((f64::INFINITY, f64::INFINITY), |(a, b), (x, y)| (a.min(x), b.min(y)))
 }
 
 fn rows(name: &str, list: &[Rule], weights: &[u32; ZONES], horizon: u32) {
     let h = horizon as usize;
     let (mut p, mut s) = (vec![0u64; h], vec![0u64; h]);
-    let ours = best(3, || {
-        proved::table(list, weights, horizon, &mut p, &mut s).expect("accepted");
-    });
+    let (mut p2, mut s2) = (vec![0u64; h], vec![0u64; h]);
+    let taken = lent::list(list);
     let moves = chart::standings(list).expect("few enough");
-    let theirs = best(3, || {
-        table::rows(&moves, weights, horizon, &mut p, &mut s);
-    });
+    let (ours, theirs) = turns(
+        3,
+        || {
+            catrovindy::table(&taken, weights, horizon, &mut p, &mut s).expect("accepted");
+        },
+        || {
+            table::rows(&moves, weights, horizon, &mut p2, &mut s2);
+        },
+    );
     println!(
         "{name}: {} standings, {horizon} rows: proved {:.1} ms, 128-bit {:.1} ms, ratio {:.2}",
         moves.len(),
@@ -37,15 +52,70 @@ fn rows(name: &str, list: &[Rule], weights: &[u32; ZONES], horizon: u32) {
 
 fn exploring(name: &str, list: &[Rule]) {
     let (mut p, mut s) = ([0u64; 1], [0u64; 1]);
+    let taken = lent::list(list);
     let ours = best(5, || {
-        proved::table(list, &IN_CONTROL, 1, &mut p, &mut s).expect("accepted");
+        catrovindy::table(&taken, &IN_CONTROL, 1, &mut p, &mut s).expect("accepted");
     });
     println!("{name}: exploring and one row: {:.2} ms", ours * 1e3);
 }
 
+/// The chart of the long series.
+const CENTRE: i32 = 50_000;
+const SIGMA: u32 = 400;
+
+/// The signals of a series by the proved library: a batch to each signal.
+fn signals(readings: &[i32]) -> u32 {
+    let (rules, mut monitor) = (lent::list(&western_electric()), Monitor::fresh());
+    let (mut left, mut signals) = (readings, 0);
+    while !left.is_empty() {
+        let batch = monitor.take(&rules, CENTRE, SIGMA, left).expect("accepted");
+        signals += u32::from(batch.last.is_signal());
+        left = &left[batch.taken..];
+    }
+    signals
+}
+
+/// The signals of a series by the plain chart with a ring of zones.
+fn plain_signals(readings: &[i32]) -> u32 {
+    let (rules, mut ring, mut signals) = (western_electric(), Ring::default(), 0);
+    for &reading in readings {
+        if ring.point(&rules, zone(reading, CENTRE, SIGMA).expect("sigma in bounds")) != 0 {
+            signals += 1;
+            ring.clear();
+        }
+    }
+    signals
+}
+
+/// A long series in control through the batch.
+fn points() {
+    let mut source = Source::new(21);
+    let readings: Vec<i32> = (0..1_000_000).map(|_| source.normal(f64::from(CENTRE), f64::from(SIGMA)).round() as i32).collect();
+    let count = signals(&readings);
+    assert_eq!(count, plain_signals(&readings));
+    let (ours, theirs) = turns(
+        20,
+        || {
+            black_box(signals(black_box(&readings)));
+        },
+        || {
+            black_box(plain_signals(black_box(&readings)));
+        },
+    );
+    let each = 1e9 / readings.len() as f64;
+    println!(
+        "Western Electric, {} points, {count} signals: proved {:.1} ns a point ({:.1} million points a second), plain {:.1} ns, ratio {:.2}",
+        readings.len(),
+        ours * each,
+        readings.len() as f64 / ours / 1e6,
+        theirs * each,
+        theirs / ours
+    );
+}
+
 /// The lines of Western Electric's rules.
 fn rule_lines() -> String {
-    western_electric().iter().map(|r| format!("rule,{},{},{}\n", r.k, r.m, r.z)).collect()
+    western_electric().iter().map(|r| format!("rule,{},{},{}\n", r.k, r.m, r.zones)).collect()
 }
 
 /// A text of nearly 65,536 bytes for the monitor: readings in control.
@@ -68,27 +138,35 @@ fn table_text() -> Vec<u8> {
 
 fn programs() {
     let text = monitor_text();
-    let mut out: Box<[u8; proved::MONITOR_REPORT_SIZE]> = vec![0; proved::MONITOR_REPORT_SIZE].try_into().expect("the size");
-    let ours = best(50, || {
-        proved::monitor_report(&text, &mut out).expect("accepted");
-    });
-    let theirs = best(50, || {
-        monitor_program(&text).expect("accepted");
-    });
+    let mut out: Box<[u8; MONITOR_SIZE]> = vec![0; MONITOR_SIZE].try_into().expect("the size");
+    let (ours, theirs) = turns(
+        200,
+        || {
+            catrovindy::monitor_report_into(&text, &mut out).expect("accepted");
+        },
+        || {
+            black_box(monitor_program(&text).expect("accepted"));
+        },
+    );
     println!("monitor, {} bytes: proved {:.3} ms, plain {:.3} ms, ratio {:.2}", text.len(), ours * 1e3, theirs * 1e3, theirs / ours);
 
     let text = table_text();
-    let mut out: Box<[u8; proved::TABLE_REPORT_SIZE]> = vec![0; proved::TABLE_REPORT_SIZE].try_into().expect("the size");
-    let ours = best(5, || {
-        proved::table_report(&text, &mut out).expect("accepted");
-    });
-    let theirs = best(5, || {
-        table_program(&text).expect("accepted");
-    });
+    let mut out: Box<[u8; TABLE_SIZE]> = vec![0; TABLE_SIZE].try_into().expect("the size");
+    let (ours, theirs) = turns(
+        20,
+        || {
+            catrovindy::table_report_into(&text, &mut out).expect("accepted");
+        },
+        || {
+            black_box(table_program(&text).expect("accepted"));
+        },
+    );
     println!("table, Western Electric to 4,096: proved {:.2} ms, plain {:.2} ms, ratio {:.2}", ours * 1e3, theirs * 1e3, theirs / ours);
 }
 
 fn main() {
+    println!("points, batch by batch:");
+    points();
     println!("whole texts:");
     programs();
     println!("in control:");

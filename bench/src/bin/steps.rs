@@ -1,0 +1,148 @@
+//! Compares the zone of a reading, the monitor's step and the batch of readings with the second implementation on many calls, accepted and
+//! refused: the answer, the next monitor, and on a refusal all that was lent. Each batch is compared with single steps of the proved
+//! library too.
+use bench::inputs::Source;
+use bench::tally::Tally;
+use bench::{lent, monitor, ring, Refusal, Rule};
+use catrovindy::{zone, Batch, Monitor, Point, RuleList};
+
+/// What was met besides refusals.
+#[derive(Default)]
+struct Met {
+    zones: Tally,
+    steps: Tally,
+    batches: Tally,
+    quiet: u64,
+    signals: u64,
+    readings: u64,
+    ended: u64,
+    signalled: u64,
+    full: u64,
+}
+
+/// The zone of a reading by the exported function, by the Rust layer and by the second implementation.
+fn same_zone(met: &mut Met, reading: i32, (centre, sigma): (i32, u32)) {
+    let ours = lent::zone(reading, centre, sigma);
+    assert_eq!(ours, ring::zone(reading, centre, sigma).map(u32::from), "reading {reading} centre {centre} sigma {sigma}");
+    assert_eq!(ours, zone(reading, centre, sigma), "the Rust layer: reading {reading} centre {centre} sigma {sigma}");
+    met.zones.add(&ours);
+}
+
+/// One step by the exported function, by the Rust layer and by the second implementation: the monitor for the next one.
+fn same_step(met: &mut Met, rules: &[Rule], given: Monitor, zone: u32) -> Option<Monitor> {
+    let ours = lent::step(rules, given, zone);
+    assert_eq!(ours, monitor::step(rules, given, zone), "{rules:?} {given:?} zone {zone}");
+    let mut at = given;
+    let wrapped = at.step(&lent::list(rules), zone).map(|point| (point, at));
+    assert_eq!(wrapped, ours, "the Rust layer: {rules:?} {given:?} zone {zone}");
+    assert!(wrapped.is_ok() || at == given, "a refusal altered the monitor: {rules:?} {given:?} zone {zone}");
+    met.steps.add(&ours);
+    let (point, next) = ours.ok()?;
+    if point.is_signal() {
+        met.signals += 1;
+    } else {
+        met.quiet += 1;
+    }
+    Some(next)
+}
+
+/// Up to thirty points from a monitor on; a refused point is followed by others.
+fn walk(met: &mut Met, source: &mut Source) {
+    let rules = source.chart_rules();
+    let mut at = source.monitor(&rules);
+    let mut refused = 0;
+    for _ in 0..30 {
+        match same_step(met, &rules, at, source.zone()) {
+            Some(next) => at = next,
+            None => refused += 1,
+        }
+        if refused == 3 {
+            return;
+        }
+    }
+}
+
+/// A batch as single calls of the proved library's zone and step.
+fn by_steps(list: &RuleList, given: Monitor, centre: i32, sigma: u32, readings: &[i32]) -> Result<(Batch, Monitor), Refusal> {
+    let mut found = Batch { taken: 0, last: Point { count: given.points, mask: 0 }, refusal: None };
+    let mut at = given;
+    for &reading in readings {
+        // a fresh monitor is refused by the rules only, and they come before sigma
+        let rules = Monitor::fresh().step(list, 0).map(|_| ());
+        let taken = rules.and_then(|()| zone(reading, centre, sigma)).and_then(|z| at.step(list, z));
+        match taken {
+            Err(refusal) if found.taken == 0 => return Err(refusal),
+            Err(refusal) => {
+                found.refusal = Some(refusal);
+                break;
+            }
+            Ok(point) => {
+                (found.taken, found.last) = (found.taken + 1, point);
+                if point.is_signal() {
+                    break;
+                }
+            }
+        }
+    }
+    Ok((found, at))
+}
+
+/// One batch by the exported function, by the Rust layer, by single steps and by the second implementation.
+fn same_batch(met: &mut Met, rules: &[Rule], given: Monitor, (centre, sigma): (i32, u32), readings: &[i32]) -> Option<(Batch, Monitor)> {
+    let list = lent::list(rules);
+    let ours = lent::batch(rules, given, centre, sigma, readings);
+    let call = || format!("{rules:?} {given:?} centre {centre} sigma {sigma} {readings:?}");
+    assert_eq!(ours, monitor::batch(rules, given, centre, sigma, readings), "{}", call());
+    assert_eq!(ours, by_steps(&list, given, centre, sigma, readings), "by steps: {}", call());
+    let mut at = given;
+    let wrapped = at.take(&list, centre, sigma, readings).map(|batch| (batch, at));
+    assert_eq!(wrapped, ours, "the Rust layer: {}", call());
+    assert!(wrapped.is_ok() || at == given, "a refusal altered the monitor: {}", call());
+    met.batches.add(&ours);
+    let (batch, next) = ours.ok()?;
+    met.readings += batch.taken as u64;
+    match batch.refusal {
+        Some(refusal) => {
+            assert_eq!((refusal.number, refusal.place), (7, 0), "{}", call());
+            met.full += 1;
+        }
+        None if batch.last.is_signal() => met.signalled += 1,
+        None => met.ended += 1,
+    }
+    Some((batch, next))
+}
+
+/// A series in batches: after each signal the rest is handed over.
+fn series(met: &mut Met, source: &mut Source) {
+    let rules = source.chart_rules();
+    let mut at = source.monitor(&rules);
+    let chart = source.chart();
+    let readings = source.readings(chart.0, chart.1);
+    for &reading in &readings {
+        same_zone(met, reading, chart);
+    }
+    let mut left = &readings[..];
+    while let Some((batch, next)) = same_batch(met, &rules, at, chart, left) {
+        if left.is_empty() {
+            return;
+        }
+        (at, left) = (next, &left[batch.taken..]);
+    }
+}
+
+fn main() {
+    let count: u64 = std::env::args().nth(1).map_or(150_000, |a| a.parse().expect("a number of walks"));
+    let mut met = Met::default();
+    let mut source = Source::new(5);
+    for _ in 0..count {
+        walk(&mut met, &mut source);
+        series(&mut met, &mut source);
+    }
+    let Met { zones, steps, batches, quiet, signals, readings, ended, signalled, full } = met;
+    zones.report("zone", "", &[1]);
+    steps.report("step", &format!(" ({quiet} quiet, {signals} signals)"), &[2, 3, 4, 5, 6, 7]);
+    let more = format!(" ({readings} readings; {ended} to the end, {signalled} to a signal, {full} to a full count)");
+    batches.report("batch", &more, &[1, 2, 3, 4, 5, 7]);
+    assert!(steps.accepted >= 1_000_000 || count < 150_000, "fewer than a million steps were taken");
+    assert!(ended > 0 && signalled > 0 && full > 0, "a way to stop was not met");
+}

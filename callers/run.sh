@@ -1,0 +1,21 @@
+#!/usr/bin/env bash
+# Builds both models of a caller, runs them, and compares what each prints with soak.out. Fails at any difference.
+set -euo pipefail
+cd "$(dirname "${BASH_SOURCE[0]}")"
+bash build.sh
+
+failed=0
+for program in soak_c soak_rust; do
+  got=../target/callers/$program.out
+  if ! "../target/callers/$program" >"$got"; then
+    echo "FAILED $program: it did not end well"
+    failed=1
+  elif ! cmp -s "$got" soak.out; then
+    echo "FAILED $program: it prints something else than soak.out"
+    diff "$got" soak.out | head -n 6 || true
+    failed=1
+  else
+    echo "same   $program"
+  fi
+done
+exit "$failed"

@@ -1,0 +1,128 @@
+//! A soak from Rust: plan it with the run-length table, then run the chart on the readings. soak.c does the same from C, and both print the
+//! same lines. See build.sh for the commands.
+use catrovindy::{monitor_report, table, table_report, zone, BoxPlot, Bracket, Monitor, PlotItem, Refusal, Rule, RuleList, Table, Weights};
+use std::io::Write;
+
+const HORIZON: u32 = 1000;
+const CENTRE: i32 = 50_000;
+const SIGMA: u32 = 400;
+
+const RULES: RuleList = RuleList::western_electric();
+
+/// A normal reading on a chart with the right centre and sigma: the chance of each zone, S A1 B1 C1 C2 B2 A2, in units of 2^-30.
+const IN_CONTROL: Weights = [2_898_884, 22_978_326, 145_927_014, 366_516_130, 366_516_130, 145_927_014, 22_978_326];
+
+const PERCENTS: [u32; 5] = [5, 25, 50, 75, 95];
+
+/// Session counts of a core; from the 13th on they are about one sigma higher.
+const READINGS: [i32; 28] = [
+    50129, 49755, 50437, 49835, 49557, 50333, 50127, 50230, 49745, 50137, 49801, 49636, 50160, 50616, 50516, 51024, 50704, 50187, 50515,
+    50073, 50419, 50105, 50028, 50229, 50866, 49909, 50543, 50515,
+];
+
+const TABLE_TEXT: &[u8] = b"weights,0,536870912,0,0,536870912,0,0\nrule,2,2,2\nhorizon,4\n";
+const MONITOR_TEXT: &[u8] = b"chart,100,10\nrule,1,1,1\nrule,2,3,2\npoint,121\npoint,100\npoint,121\npoint,131\n";
+
+/// (a) How likely is a sound core to be flagged, and (b) after how many points?
+fn plan() -> Result<(), Refusal> {
+    let table = Table::new(&RULES, &IN_CONTROL, HORIZON)?;
+    let figures = table.figures;
+    println!("states,{}", figures.states);
+    for n in [48, HORIZON] {
+        // the exact chance of a signal by n is at least the first and less than the second, in units of 2^-60
+        let (low, high) = table.signal_by(n).unwrap_or_default();
+        println!("by,{n},{low},{high}");
+    }
+    // the exact mean is at least this, and at most the last number of units more
+    let h = u64::from(HORIZON);
+    println!("mean,{},{},{}", figures.mean_whole, figures.mean_fraction, u64::from(figures.states) * h * (h - 1) / 2);
+    for percent in PERCENTS {
+        match table.bracket(percent)? {
+            Bracket::At(n) => println!("percentile,{percent},at,{n}"),
+            Bracket::Between(low, high) => println!("percentile,{percent},between,{low},{high}"),
+            Bracket::Open(low) => println!("percentile,{percent},open,{low}"),
+            Bracket::Beyond(h) => println!("percentile,{percent},beyond,{h}"),
+        }
+    }
+    Ok(())
+}
+
+/// (c) The same percentiles and the mean's bounds as doubles, for a plotter; over 100 points only, so that the last ones lie beyond.
+fn plot() -> Result<(), Refusal> {
+    let plot = BoxPlot::new(&RULES, &IN_CONTROL, 100)?;
+    for (percent, item) in PERCENTS.into_iter().zip([plot.p5, plot.p25, plot.p50, plot.p75, plot.p95]) {
+        match item {
+            PlotItem::Point(n) => println!("plot,{percent},point,{n:.1}"),
+            PlotItem::Span(low, high) => println!("plot,{percent},span,{low:.1},{high:.1}"),
+            PlotItem::Open(low) => println!("plot,{percent},open,{low:.1}"),
+            PlotItem::Beyond(h) => println!("plot,{percent},beyond,{h:.1}"),
+        }
+    }
+    println!("plot,mean,{:.12},{:.12}", plot.lower, plot.upper);
+    match plot.iqr {
+        Some(iqr) => println!("plot,iqr,{iqr:.1}"),
+        None => println!("plot,iqr,none"),
+    }
+    Ok(())
+}
+
+/// (d) The chart, reading by reading, from a fresh monitor.
+fn watch() -> Result<Monitor, Refusal> {
+    let mut monitor = Monitor::fresh();
+    for (i, &reading) in READINGS.iter().enumerate() {
+        let point = monitor.step(&RULES, zone(reading, CENTRE, SIGMA)?)?;
+        if point.is_signal() {
+            println!("step,{},signal,{},{}", i + 1, point.count, point.mask);
+        }
+    }
+    println!("steps,{},{},{}", READINGS.len(), monitor.state, monitor.points);
+    Ok(monitor)
+}
+
+/// (e) The same series in batches: each stops at a signal, and the next one takes up the rest.
+fn watch_batches() -> Result<Monitor, Refusal> {
+    let mut monitor = Monitor::fresh();
+    let mut done = 0;
+    while done < READINGS.len() {
+        let batch = monitor.take(&RULES, CENTRE, SIGMA, &READINGS[done..])?;
+        done += batch.taken;
+        let why = match batch.refusal {
+            _ if batch.last.is_signal() => "signal",
+            Some(_) => "refusal",
+            None => "end",
+        };
+        println!("batch,{},{why},{},{}", batch.taken, batch.last.count, batch.last.mask);
+    }
+    println!("batches,{done},{},{}", monitor.state, monitor.points);
+    Ok(monitor)
+}
+
+/// (f) A refusal: the second rule's set has a zone that does not exist. All that was lent is as it was.
+fn refusal() {
+    let wrong: RuleList = RULES.rules().enumerate().map(|(i, rule)| if i == 1 { Rule { zones: 128, ..rule } } else { rule }).collect();
+    let (mut pmf, mut survival) = ([7; 3], [8; 3]);
+    match table(&wrong, &IN_CONTROL, 3, &mut pmf, &mut survival) {
+        Ok(_) => println!("accepted"),
+        Err(Refusal { number, place }) => {
+            let kept = if (pmf, survival) == ([7; 3], [8; 3]) { "kept" } else { "altered" };
+            println!("refused,{number},{place},{kept}");
+        }
+    }
+}
+
+/// (g) The two programs, text in and text out.
+fn reports() -> Result<(), Box<dyn std::error::Error>> {
+    let mut out = std::io::stdout();
+    out.write_all(&table_report(TABLE_TEXT)?)?;
+    out.write_all(&monitor_report(MONITOR_TEXT)?)?;
+    Ok(())
+}
+
+fn main() -> Result<(), Box<dyn std::error::Error>> {
+    plan()?;
+    plot()?;
+    let (monitor, batched) = (watch()?, watch_batches()?);
+    println!("{}", if monitor == batched { "alike" } else { "different" });
+    refusal();
+    reports()
+}

@@ -1,0 +1,45 @@
+//! Run-length tables and monitors for runs-rules control charts: a safe layer over the exported functions of the proved library.
+//!
+//! A point lies in one of seven zones by its distance from the centre. A [`Rule`] k,m,Z holds where at least k of the last m points lie in
+//! the zones of Z; where fewer than m points exist, all of them count. A chart signals where some rule of its [`RuleList`] holds, and a
+//! signal clears it. The run length is the number of the first point that signals. A unit is 2^-60.
+//!
+//! A planner asks for the run length: [`table()`], [`Table`], [`bracket`], [`box_plot`]. A bench runs the chart: [`zone()`], [`Monitor`].
+//! [`table_report`] and [`monitor_report`] are the two programs, text in and text out.
+//!
+//! Every function takes any input. What it does not accept it refuses: see [`Refusal`]. A refusal alters nothing that was lent. The
+//! functions keep nothing between calls, so that any number of threads may call them.
+//!
+//! ```
+//! use catrovindy::{zone, Monitor, RuleList};
+//!
+//! let rules = RuleList::western_electric();
+//! let mut monitor = Monitor::fresh();
+//! let mut masks = Vec::new();
+//! for reading in [121, 100, 121, 121] {
+//!     let point = monitor.step(&rules, zone(reading, 100, 10)?)?;
+//!     masks.push(point.mask);
+//! }
+//! // the third point: two of the last three in zone A1, the rule with index 2
+//! assert_eq!(masks, [0, 0, 4, 0]);
+//! # Ok::<(), catrovindy::Refusal>(())
+//! ```
+#![deny(missing_docs)]
+#![deny(unsafe_op_in_unsafe_fn)]
+
+mod monitor;
+mod plot;
+pub mod raw;
+mod refusal;
+mod report;
+mod rules;
+mod table;
+mod zone;
+
+pub use monitor::{Batch, Monitor, Point, MAX_COUNT};
+pub use plot::{box_plot, BoxPlot, PlotItem};
+pub use refusal::Refusal;
+pub use report::{monitor_report, monitor_report_into, table_report, table_report_into, MAX_TEXT, MONITOR_SIZE, TABLE_SIZE};
+pub use rules::{Rule, RuleList, MAX_RULES, MAX_WINDOW};
+pub use table::{bracket, table, Bracket, Figures, Table, MAX_HORIZON, MAX_STATES, UNITS_PER_ONE, WEIGHT_TOTAL};
+pub use zone::{zone, Weights, A1, A2, B1, B2, C1, C2, MAX_SIGMA, S, ZONES};

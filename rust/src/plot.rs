@@ -1,0 +1,103 @@
+//! The plot record: what a box plot of the run length is drawn from, in doubles.
+use crate::{raw, table, Refusal, RuleList, Weights};
+
+/// A percentile as a plotter takes it. Each double is a whole number, exactly.
+#[derive(Clone, Copy, Debug, PartialEq)]
+pub enum PlotItem {
+    /// At this point.
+    Point(f64),
+    /// From the first to the second.
+    Span(f64, f64),
+    /// At this point or later.
+    Open(f64),
+    /// Later than this point, the horizon.
+    Beyond(f64),
+}
+
+/// The plot record.
+#[derive(Clone, Copy, Debug, PartialEq)]
+pub struct BoxPlot {
+    /// The percentile 5.
+    pub p5: PlotItem,
+    /// The first quartile.
+    pub p25: PlotItem,
+    /// The median.
+    pub p50: PlotItem,
+    /// The third quartile.
+    pub p75: PlotItem,
+    /// The percentile 95.
+    pub p95: PlotItem,
+    /// The mean cut at the horizon is not less than this, a multiple of 2^-36.
+    pub lower: f64,
+    /// And not more than this, likewise.
+    pub upper: f64,
+    /// The interquartile range, where both quartiles are points.
+    pub iqr: Option<f64>,
+}
+
+impl BoxPlot {
+    /// The plot record of a rule list.
+    ///
+    /// Refused by 2, 3, 4; 8; 9; 10, in this order.
+    pub fn new(rules: &RuleList, weights: &Weights, horizon: u32) -> Result<BoxPlot, Refusal> {
+        let (mut pmf, mut survival) = table::lists(horizon);
+        box_plot(rules, weights, horizon, &mut pmf, &mut survival)
+    }
+}
+
+/// The plot record, and the table that it is made from in the caller's lists: as [`table()`](crate::table()) leaves them.
+///
+/// Refused as the table is.
+///
+/// ```
+/// use catrovindy::{BoxPlot, PlotItem, RuleList};
+///
+/// let in_control = [2_898_884, 22_978_326, 145_927_014, 366_516_130, 366_516_130, 145_927_014, 22_978_326];
+/// let plot = BoxPlot::new(&RuleList::western_electric(), &in_control, 1000)?;
+/// assert_eq!((plot.p50, plot.iqr), (PlotItem::Point(65.0), Some(97.0)));
+/// assert!(91.7 < plot.lower && plot.lower < plot.upper && plot.upper < 91.8);
+/// # Ok::<(), catrovindy::Refusal>(())
+/// ```
+pub fn box_plot(rules: &RuleList, weights: &Weights, horizon: u32, pmf: &mut [u64], survival: &mut [u64]) -> Result<BoxPlot, Refusal> {
+    let (slots, count) = rules.slots();
+    let (mut kinds, mut values) = ([0; 6], [0.0; 13]);
+    // SAFETY: 24 slots, seven weights, two slices with their lengths, arrays of six and thirteen.
+    let code = unsafe {
+        raw::catrovindy_plot(
+            slots.as_ptr(),
+            count,
+            weights.as_ptr(),
+            horizon,
+            pmf.as_mut_ptr(),
+            pmf.len(),
+            survival.as_mut_ptr(),
+            survival.len(),
+            kinds.as_mut_ptr(),
+            values.as_mut_ptr(),
+        )
+    };
+    Refusal::check(code)?;
+    let [k5, k25, k50, k75, k95, has_iqr] = kinds;
+    let [a5, b5, a25, b25, a50, b50, a75, b75, a95, b95, lower, upper, iqr] = values;
+    Ok(BoxPlot {
+        p5: item(k5, a5, b5),
+        p25: item(k25, a25, b25),
+        p50: item(k50, a50, b50),
+        p75: item(k75, a75, b75),
+        p95: item(k95, a95, b95),
+        lower,
+        upper,
+        iqr: (has_iqr == 1).then_some(iqr),
+    })
+}
+
+/// An item by its kind and its two doubles.
+fn item(kind: u32, first: f64, second: f64) -> PlotItem {
+    match kind {
+        1 => PlotItem::Point(first),
+        2 => PlotItem::Span(first, second),
+        3 => PlotItem::Open(first),
+        // 4: there is no other
+        _ => PlotItem::Beyond(first),
+    }
+}

@@ -1,0 +1,72 @@
+//! The two programs: text in, text out.
+use crate::{raw, Refusal};
+
+/// The most bytes that a text may have.
+pub const MAX_TEXT: usize = 65_536;
+
+/// Room for the table program's lines at its largest horizon, 4,096.
+pub const TABLE_SIZE: usize = 344_576;
+
+/// Room for the monitor program's lines for the longest text.
+pub const MONITOR_SIZE: usize = 401_456;
+
+/// The table program's lines for a text of a weights line, rule lines and a horizon line.
+///
+/// Refused by 17; 16; 2, 3, 4; 8; 9, also for a horizon over 4,096; 10, in this order.
+///
+/// ```
+/// let text = b"weights,0,536870912,0,0,536870912,0,0\nrule,2,2,2\nhorizon,4\n";
+/// let lines = catrovindy::table_report(text)?;
+/// assert!(lines.starts_with(b"standings,2\nn,chance,by,left\n1,0,0,1152921504606846976\n"));
+/// # Ok::<(), catrovindy::Refusal>(())
+/// ```
+pub fn table_report(text: &[u8]) -> Result<Vec<u8>, Refusal> {
+    let mut out = vec![0; TABLE_SIZE];
+    // SAFETY: the buffer has the size of a table report.
+    let bytes = unsafe { written(raw::catrovindy_table_report, text, out.as_mut_ptr()) }?;
+    out.truncate(bytes);
+    Ok(out)
+}
+
+/// The monitor program's lines for a text of a chart line, rule lines and point lines.
+///
+/// Refused by 17; 16; 2, 3, 4; 1, in this order.
+///
+/// ```
+/// let lines = catrovindy::monitor_report(b"chart,100,10\nrule,1,1,1\npoint,100\npoint,131\n");
+/// assert_eq!(lines, Ok(b"quiet,1\nsignal,2,1\ntotal,2,1\n".to_vec()));
+/// let refusal = catrovindy::monitor_report(b"chart,100,10\nrule,1,1,1\npoint,+1\n").unwrap_err();
+/// assert_eq!((refusal.number, refusal.place), (16, 3));
+/// ```
+pub fn monitor_report(text: &[u8]) -> Result<Vec<u8>, Refusal> {
+    let mut out = vec![0; MONITOR_SIZE];
+    // SAFETY: the buffer has the size of a monitor report.
+    let bytes = unsafe { written(raw::catrovindy_monitor_report, text, out.as_mut_ptr()) }?;
+    out.truncate(bytes);
+    Ok(out)
+}
+
+/// As [`table_report`], but into the caller's buffer: answers how many bytes the lines have. The bytes after them are kept.
+pub fn table_report_into(text: &[u8], out: &mut [u8; TABLE_SIZE]) -> Result<usize, Refusal> {
+    // SAFETY: the buffer has the size of a table report.
+    unsafe { written(raw::catrovindy_table_report, text, out.as_mut_ptr()) }
+}
+
+/// As [`monitor_report`], but into the caller's buffer: answers how many bytes the lines have. The bytes after them are kept.
+pub fn monitor_report_into(text: &[u8], out: &mut [u8; MONITOR_SIZE]) -> Result<usize, Refusal> {
+    // SAFETY: the buffer has the size of a monitor report.
+    unsafe { written(raw::catrovindy_monitor_report, text, out.as_mut_ptr()) }
+}
+
+type Report = unsafe extern "C" fn(*const u8, usize, *mut u8, *mut u64) -> u64;
+
+/// How many bytes a report has written.
+///
+/// # Safety
+/// `out` is a buffer of the report's size that may be written, all of it initialised.
+unsafe fn written(report: Report, text: &[u8], out: *mut u8) -> Result<usize, Refusal> {
+    let mut bytes = 0;
+    // SAFETY: a slice with its length, the caller's buffer, one number.
+    Refusal::check(unsafe { report(text.as_ptr(), text.len(), out, &mut bytes) })?;
+    Ok(bytes as usize)
+}

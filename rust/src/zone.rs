@@ -1,0 +1,41 @@
+//! The zone of a reading.
+use crate::{raw, Refusal};
+
+/// How many zones there are, numbered from 0.
+pub const ZONES: usize = 7;
+
+/// The weight of each zone: its chance is its weight over 2^30, and all sum to 2^30.
+pub type Weights = [u32; ZONES];
+
+/// The largest sigma; the least is 1.
+pub const MAX_SIGMA: u32 = 65_535;
+
+/// More than three sigma from the centre, on either side.
+pub const S: u32 = 0;
+/// Above the centre by more than two sigma, and at most three.
+pub const A1: u32 = 1;
+/// Above the centre by more than one sigma, and at most two.
+pub const B1: u32 = 2;
+/// At the centre, or above it by at most one sigma.
+pub const C1: u32 = 3;
+/// Below the centre by at most one sigma.
+pub const C2: u32 = 4;
+/// Below the centre by more than one sigma, and at most two.
+pub const B2: u32 = 5;
+/// Below the centre by more than two sigma, and at most three.
+pub const A2: u32 = 6;
+
+/// The zone of a reading on a chart with this centre and sigma. A reading on a limit belongs to the inner zone.
+///
+/// Refused by 1.
+///
+/// ```
+/// use catrovindy::{zone, A1, S};
+/// assert_eq!((zone(131, 100, 10), zone(130, 100, 10)), (Ok(S), Ok(A1)));
+/// ```
+pub fn zone(reading: i32, centre: i32, sigma: u32) -> Result<u32, Refusal> {
+    let mut zone = 0;
+    // SAFETY: `zone` is one number.
+    Refusal::check(unsafe { raw::catrovindy_zone(reading, centre, sigma, &mut zone) })?;
+    Ok(zone)
+}
