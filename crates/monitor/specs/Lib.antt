@@ -6,6 +6,7 @@ pub mod State
 pub mod ForgetLaws
 pub mod ValidLaws
 pub mod StateLaws
+pub mod SettledLaws
 pub mod Step
 pub mod ReferenceChart
 pub mod Take

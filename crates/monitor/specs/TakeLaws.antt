@@ -29,7 +29,8 @@ use Rattle.monitor.specs.State.{validState, holding, stateMask, nextStat
 use Rattle.monitor.specs.StateLaws.{window-small}
 use Rattle.monitor.specs.Step.{maxCount}
 use Rattle.monitor.specs.StepLaws.{step-signal, step-quiet, take-signal, take-quiet}
-use Rattle.monitor.specs.Take.{takenAnswers}
+use Rattle.monitor.specs.SettledLaws.{both}
+use Rattle.monitor.specs.Take.{takenOf, takenAnswers}
 use Rattle.monitor.specs.Calls.{monitorAnswers, ZonesExist}
 use Rattle.monitor.specs.RowLaws.{young, digit, digits, bit-zero, valid-of-row, empty-row-state, empty-row-mask}
 use Rattle.monitor.specs.Agreement.{rules-accepted}
@@ -75,10 +76,6 @@ window-next-valid r bounds count w z v e =
 
 -- ---- all rules
 
-both : (x y : Bool) → cond x y false ≡ true → (x ≡ true) × (y ≡ true)
-both true y e = (refl, e)
-both false y e = let n : _≡_ {A = ℕ} 0 1 = cc in absurd (omega arith)
-
 -- a quiet point leads from a state that can be given to one that can be given with one more point counted
 pub valid-next : (rs : List Rule) → AllInBounds rs → (count s z : ℕ) → z < zoneCount → validState count rs s ≡ true → stateMask rs s z ≡ 0 → validState (count + 1) rs (nextState rs s z) ≡ true
 unfolding AllInBounds validState maskOf holding nextState
@@ -98,6 +95,15 @@ valid-next (r ∷ rs) p count s z zone v e =
 -- the empty state can be given with no point counted
 pub fresh-valid : (rs : List Rule) → AllInBounds rs → validState 0 rs 0 ≡ true
 fresh-valid rs p = ap (λ (s : ℕ). validState 0 rs s) (sym (empty-row-state rs)) ∙ valid-of-row rs p [] (empty-row-mask rs p)
+
+-- a point that is taken leads from a monitor that can be given to one that can be given
+pub taken-valid : (rs : List Rule) → AllInBounds rs → (m : Monitor) (z : ℕ) → z < zoneCount → validState (m .count) rs (m .state) ≡ true
+    → validState (takenOf rs m z .next .count) rs (takenOf rs m z .next .state) ≡ true
+taken-valid rs p m z zone v =
+    ⊎-elim
+    (λ (n : stateMask rs (m .state) z ≡ 0). rw (take-quiet rs m z n) (valid-next rs p (m .count) (m .state) z zone v n))
+    (λ (n : 0 < stateMask rs (m .state) z). rw (take-signal rs m z (λ y. omega arith)) (fresh-valid rs p))
+    (eq-zero-or-pos (stateMask rs (m .state) z))
 
 -- ---- a list of points
 

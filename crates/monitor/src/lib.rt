@@ -4,6 +4,7 @@ use rules::Refusal;
 use rules::RuleList;
 use rules::ZONES;
 ghost use mathlib.Core.Path.{_≡_};
+ghost use mathlib.Core.Bool.{true};
 ghost use Prim.Native.Nat.{_≤_, _<_};
 ghost use Rattle.rules.specs.Bounds.{zoneCount, maxRules};
 ghost use Rattle.rules.specs.Check.{activeRules};
@@ -80,21 +81,32 @@ impl Monitor {
         state::valid_state(list, self.count, self.state)
     }
 
-    // One point, for rules that are accepted, a zone that exists and a count that is not full.
+    // One point, for rules that are accepted, a zone that exists, a state that can be given and a count that is not full: every rule's window
+    // is moved once, from the last rule to the first.
     pub fn take(self, list: RuleList, zone: u32) -> Taken
         requires { ⌜ (list .len ≤ maxRules) × AllInBounds (activeRules list) × (zone < zoneCount) × (self .count < maxCount) ⌝ }
+        requires { ⌜ validState (self .count) (activeRules list) (self .state) ≡ true ⌝ }
         ensures { λ r. ⌜ r ≡ takenOf (activeRules list) self zone ⌝ }
     {
+        let len = list.len;
+        let rules = list.rules;
         let state = self.state;
         let points = self.count;
-        let mask = state::mask(list, state, zone);
+        let mut mask: u32 = 0;
+        let mut next: u64 = 0;
+        let mut i = len;
+        while i > 0 {
+            i -= 1;
+            let moved = window::settled_move(rules[i as usize], state::window_at(state, i), zone);
+            mask = moved.holds + 2 * mask;
+            next = moved.next + window::BASE * next;
+        }
         if mask != 0 {
             return Taken {
                 mask,
                 next: Monitor { state: 0, count: 0 },
             };
         }
-        let next = state::next_state(list, state, zone);
         let count = points + 1;
         Taken {
             mask,

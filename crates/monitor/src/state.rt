@@ -28,7 +28,7 @@ pub(crate) fn valid_state(list: RuleList, count: u32, state: u64) -> bool
 }
 
 // The window of rule i.
-fn window_at(state: u64, i: u32) -> u64
+pub(crate) fn window_at(state: u64, i: u32) -> u64
     requires { ⌜ i < maxRules ⌝ }
     ensures { λ w. ⌜ w ≡ state / 2 ^ (maxAge * i) % windowBase ⌝ }
 {

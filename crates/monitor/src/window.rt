@@ -2,17 +2,24 @@
 use rules::Rule;
 use rules::RuleList;
 ghost use mathlib.Core.Path.{_≡_};
-ghost use Prim.Native.Nat.{_+_, _-_, _*_, _≤_, _<_, min};
+ghost use Prim.Native.Nat.{_+_, _-_, _*_, _%_, _^_, _≤_, _<_, min};
 ghost use Rattle.rules.specs.Bounds.{zoneCount};
 ghost use Rattle.rules.specs.InBounds.{InBounds};
 ghost use Rattle.rules.specs.Mask.{bit};
 ghost use Rattle.rules.specs.ZoneSet.{inZoneSet};
+ghost use Rattle.monitor.specs.SettledLaws.{Settled};
 ghost use Rattle.monitor.specs.Window.{maxAge, windowBase, hitsUpTo, live, nextWindow, windowHolds, validWindow};
 
 // The oldest age that any rule can remember, and the number of different windows.
 pub(crate) const MAX_AGE: u32 = RuleList::MAX_WINDOW - 1;
 
 pub(crate) const BASE: u64 = 1 << MAX_AGE;
+
+// What a point does to a window.
+pub(crate) struct WindowMove {
+    pub(crate) holds: u32,
+    pub(crate) next: u64,
+}
 
 // 1 if the zone is in the set, else 0.
 fn hit(zones: u32, zone: u32) -> u64
@@ -63,6 +70,36 @@ pub(crate) fn holds(rule: Rule, window: u64, zone: u32) -> u32
     let h = hit(rule.zones, zone);
     let older = hits(window);
     if rule.k as u64 <= h + older { 1 } else { 0 }
+}
+
+// The window with a hit at age 1 and every other hit a point older, up to the oldest age of the rule.
+fn moved_up(window: u64, ages: u32) -> u64
+    requires { ⌜ (window < windowBase) × (ages ≤ maxAge) ⌝ }
+    ensures { λ n. ⌜ n ≡ (1 + 2 * window) % 2 ^ ages ⌝ }
+{
+    let limit: u64 = 1 << ages;
+    (1 + 2 * window) % limit
+}
+
+// What a point does to a window that can be given: 1 if the rule then holds, else 0; and the next window. A hit moves every age up by one;
+// only a miss can make older hits stale.
+pub(crate) fn settled_move(rule: Rule, window: u64, zone: u32) -> WindowMove
+    requires { ⌜ InBounds rule × (window < windowBase) × (zone < zoneCount) × Settled rule window ⌝ }
+    ensures { λ r. ⌜ (r .holds ≡ bit (windowHolds rule window zone)) × (r .next ≡ nextWindow rule window zone) ⌝ }
+{
+    if hit(rule.zones, zone) == 1 {
+        return WindowMove {
+            holds: holds(rule, window, zone),
+            next: moved_up(window, rule.m - 1),
+        };
+    }
+    if window == 0 {
+        return WindowMove { holds: 0, next: 0 };
+    }
+    WindowMove {
+        holds: 0,
+        next: live_hits(rule.k as u64, 0, (rule.m - 1) as u64, 2 * window),
+    }
 }
 
 // The points counted, or the oldest age where they are more.

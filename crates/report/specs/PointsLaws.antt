@@ -9,13 +9,16 @@ use lib.ListN.{length, length-append}
 use lib.IntN.{ℤ, _-ℤ_}
 use borrow.Author.Tests.{eq-eqb, ne-eqb}
 use Rattle.rules.specs.declared.Rule.{Rule}
+use Rattle.rules.specs.InBounds.{AllInBounds}
 use Rattle.monitor.specs.declared.Monitor.{Monitor}
 use Rattle.monitor.specs.Zone.{zoneAt}
-use Rattle.monitor.specs.State.{stateMask, nextState}
+use Rattle.monitor.specs.State.{stateMask, nextState, validState}
 use Rattle.monitor.specs.Step.{monitorAt, freshMonitor}
 use Rattle.monitor.specs.declared.Taken.{Taken}
 use Rattle.monitor.specs.ReferenceChart.{Answer, quiet, signal}
 use Rattle.monitor.specs.Take.{takenOf, answerBy, takenAnswers}
+use Rattle.monitor.specs.TakeLaws.{fresh-valid, taken-valid}
+use Rattle.monitor.specs.ZoneLaws.{zone-exists}
 use Rattle.text.specs.declared.lines.Line.{Line}
 use Rattle.text.specs.declared.lines.Line.the-variants.{Point}
 use Rattle.text.specs.Line.{lineAt}
@@ -92,6 +95,7 @@ pub record Charted (s : List ℕ) (at : ℕ) (rs : List Rule) (centre : ℤ) (si
   pub total : points + length (readingsAt fuel s i) ≡ length (readingsAt (length s) s at)
   pub point-count : points ≡ length answers
   pub signal-count : signals ≡ signalsIn answers
+  pub valid : validState (m .count) rs (m .state) ≡ true
   pub counted : m .count ≤ points
   pub signalled : signals ≤ points
   pub ahead : 8 * points ≤ i
@@ -101,9 +105,9 @@ pub record Charted (s : List ℕ) (at : ℕ) (rs : List Rule) (centre : ℤ) (si
   pub wrote : Wrote before 0 after end (answerLines answers)
 
 module _ {s : List ℕ} {at : ℕ} {rs : List Rule} {centre : ℤ} {sigma : ℕ} {before : List ℕ} where
-  pub charted-start : Charted s at rs centre sigma before before at 0 0 0 freshMonitor
+  pub charted-start : AllInBounds rs → Charted s at rs centre sigma before before at 0 0 0 freshMonitor
   unfolding answerLines signalsIn
-  charted-start =
+  charted-start bounds =
       record {
         fuel = length s;
         enough = omega arith;
@@ -112,6 +116,7 @@ module _ {s : List ℕ} {at : ℕ} {rs : List Rule} {centre : ℤ} {sigma : ℕ}
         total = omega arith;
         point-count = refl;
         signal-count = refl;
+        valid = fresh-valid rs bounds;
         counted = omega arith;
         signalled = omega arith;
         ahead = omega arith;
@@ -131,13 +136,13 @@ module _ {s : List ℕ} {at : ℕ} {rs : List Rule} {centre : ℤ} {sigma : ℕ}
         go zero h p = absurd (omega (arith, point-ahead s i x next e))
         go (suc f) h p = let p′ = rw e at p in omega (arith, p′)
 
-    pub charted-more : (x : ℤ) (next : ℕ) → lineAt s i ≡ Point x next → (z : ℕ) → z ≡ zoneAt (x -ℤ centre) sigma
+    pub charted-more : AllInBounds rs → (x : ℤ) (next : ℕ) → lineAt s i ≡ Point x next → (z : ℕ) → z ≡ zoneAt (x -ℤ centre) sigma
         → (taken : Taken) → taken ≡ takenOf rs m z → {after′ : List ℕ} (r one : ℕ)
         → Wrote after end after′ r (lineOf (answerBy (taken .mask) (m .count + 1))) → r ≤ end + signalRoom
         → one ≡ cond (eqb (taken .mask) 0) 0 1
         → Charted s at rs centre sigma before after′ next r (points + 1) (signals + one) (taken .next)
     unfolding readingsAt zonesOf takenAnswers
-    charted-more x next e z ez taken et {after′} r one w l eo = go (u .fuel) (u .enough) (u .total) (u .whole)
+    charted-more bounds x next e z ez taken et {after′} r one w l eo = go (u .fuel) (u .enough) (u .total) (u .whole)
       where
         a : (i + 8 ≤ next) × (next ≤ length s)
         a = point-ahead s i x next e
@@ -160,6 +165,7 @@ module _ {s : List ℕ} {at : ℕ} {rs : List Rule} {centre : ℤ} {sigma : ℕ}
               total = omega (arith, p′);
               point-count = omega (arith, u .point-count, length-append (u .answers) (answer ∷ []));
               signal-count = omega (arith, u .signal-count, signals-more (u .answers) answer, mask-signal (taken .mask) (m .count + 1));
+              valid = rw (← et) at (taken-valid rs bounds m z (omega (arith, ez, zone-exists (x -ℤ centre) sigma)) (u .valid));
               counted = let k = count-le rs m z in let k′ = rw (← et) at k in omega (arith, k′, u .counted);
               signalled = omega (arith, u .signalled, signal-le (taken .mask));
               ahead = omega (arith, a, u .ahead);

@@ -65,7 +65,7 @@ take-requires c κs =
     let s = start .args in
     let x = getD (s .readings .now) (in-loop .loop .i) (pos 0) in
     let p = accepted (s .list) (start .pre .0) in
-    (p .1, p .2, omega (arith, c .zone-at .ensures, zone-exists (toZ w32 (ofZ w32 x) -ℤ toZ w32 (ofZ w32 (s .centre))) (s .sigma)), omega arith)
+    ((p .1, p .2, omega (arith, c .zone-at .ensures, zone-exists (toZ w32 (ofZ w32 x) -ℤ toZ w32 (ofZ w32 (s .centre))) (s .sigma)), omega arith), in-loop .loop .inv .1)
 
 add-t19 : tie.Need-add-t19 Inv-loop μ-loop
 add-t19 c = search needs

@@ -38,7 +38,11 @@ add-count : tie.Need-add-count
 add-count c = search needs
 
 take-requires : tie.Need-take-requires
-take-requires c κs = search needs
+take-requires c κs =
+    let left = c .before in
+    let found = left .before in
+    let start = found .before .before in
+    ((start .pre .0, start .pre .1, omega arith, omega arith), sym (found .valid .ensures) ∙ not-false (found .valid .result) (left .if2 .left))
 
 returns-4 : tie.Need-returns-4
 returns-4 c =

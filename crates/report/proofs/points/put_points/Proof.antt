@@ -24,7 +24,7 @@ fresh-requires : tie.Need-fresh-requires Inv-loop μ-loop
 fresh-requires c κs = search needs
 
 loop-holds : tie.Need-loop-holds Inv-loop μ-loop
-loop-holds c = rw (c .fresh .ensures) charted-start
+loop-holds c = rw (c .fresh .ensures) (charted-start (c .before .before .before .pre .0 .1))
 
 read-line-requires : tie.Need-read-line-requires Inv-loop μ-loop
 read-line-requires c κs = search needs
@@ -60,7 +60,7 @@ take-requires c κs =
     let x : toZ w32 (ofZ w32 (k .reading .given .0 .0)) ≡ k .reading .given .0 .0 = search needs in
     let centre : toZ w32 (ofZ w32 (chart .centre)) ≡ chart .centre = search needs in
     let zone = z .zone-at .ensures ∙ zone-given x centre (chart .sigma) in
-    (start .pre .0 .0, start .pre .0 .1, omega (arith, zone, zone-exists (k .reading .given .0 .0 -ℤ chart .centre) (chart .sigma)), omega (arith, u .counted, u .fit, start .pre .1 .1 .0))
+    ((start .pre .0 .0, start .pre .0 .1, omega (arith, zone, zone-exists (k .reading .given .0 .0 -ℤ chart .centre) (chart .sigma)), omega (arith, u .counted, u .fit, start .pre .1 .1 .0)), u .valid)
 
 put-answer-requires : tie.Need-put-answer-requires Inv-loop μ-loop
 put-answer-requires c κs =
@@ -99,7 +99,7 @@ loop-again c =
     let x : toZ w32 (ofZ w32 (k .reading .given .0 .0)) ≡ k .reading .given .0 .0 = search needs in
     let centre : toZ w32 (ofZ w32 (chart .centre)) ≡ chart .centre = search needs in
     let zone = z .zone-at .ensures ∙ zone-given x centre (chart .sigma) in
-    charted-more (k .before .before .before .loop .inv) _ _ (sym (k .before .before .read-line .ensures) ∙ k .reading .given .1) _ zone _ (t .take .ensures) _ _
+    charted-more (k .before .before .before .loop .inv) (k .before .before .before .before .before .before .before .pre .0 .1) _ _ (sym (k .before .before .read-line .ensures) ∙ k .reading .given .1) _ zone _ (t .take .ensures) _ _
     (w .put-answer .ensures .0) (w .put-answer .ensures .1) (c .before .one-signal .ensures)
 
 pub put-points-spec : {M : Type 1} → statement M
