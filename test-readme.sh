@@ -7,7 +7,11 @@ cd "$(dirname "$0")"
 
 place=$(mktemp -d)
 trap 'rm -rf "$place"' EXIT
-git clone --quiet . "$place/clone"
+# A clone; or, where git does not trust the folder, its files as they are.
+if ! git clone --quiet . "$place/clone" 2>/dev/null; then
+  mkdir "$place/clone"
+  tar -c --exclude=target --exclude=.git . | tar -x -C "$place/clone"
+fi
 # What is already proved here need not be proved again there.
 if [ -d target ]; then cp -a target "$place/clone/target"; fi
 cd "$place/clone"
