@@ -1,10 +1,16 @@
-// What both programs write to standard output.
+// What both programs read from standard input and write to standard output, and what they say of an error on standard error.
+mod input;
+
+pub use input::Input;
+pub use input::read_input;
 use libc::STDOUT_FILENO;
 use rules::Refusal;
 
-// A report's bytes, in one write.
+// A report's bytes, all of them, or what went wrong on standard error.
 pub fn lines(bytes: &[u8]) {
-    io::write_all(STDOUT_FILENO, bytes);
+    if !io::write_all(STDOUT_FILENO, bytes) {
+        os::fail(b"standard output");
+    }
 }
 
 // The line of a refused text.

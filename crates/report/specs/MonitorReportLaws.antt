@@ -36,12 +36,12 @@ use Rattle.report.specs.MonitorReport.{readingAnswers, checkedBy, chartP
 
 -- ---- the points' answers
 
-zones-exist : (centre : ℤ) (sigma : ℕ) (xs : List ℤ) → ZonesExist (zonesOf centre sigma xs)
+pub zones-exist : (centre : ℤ) (sigma : ℕ) (xs : List ℤ) → ZonesExist (zonesOf centre sigma xs)
 unfolding zonesOf ZonesExist
 zones-exist centre sigma [] = tt
 zones-exist centre sigma (x ∷ xs) = (zone-exists (x -ℤ centre) sigma, zones-exist centre sigma xs)
 
-zones-length : (centre : ℤ) (sigma : ℕ) (xs : List ℤ) → length (zonesOf centre sigma xs) ≡ length xs
+pub zones-length : (centre : ℤ) (sigma : ℕ) (xs : List ℤ) → length (zonesOf centre sigma xs) ≡ length xs
 unfolding zonesOf
 zones-length centre sigma [] = refl
 zones-length centre sigma (x ∷ xs) = omega (arith, zones-length centre sigma xs)

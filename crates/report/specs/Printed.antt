@@ -1,8 +1,10 @@
 -- What a program prints, and what a report leaves in the lent buffer. Definitions.
-use Prim.Native.Nat.{ℕ}
+use Prim.Native.Nat.{ℕ, _≤_}
+use mathlib.Core.Path.{_≡_}
 use mathlib.Core.List.{List, _++_}
-use lib.ListN.{length, drop}
+use lib.ListN.{length, take, drop}
 use Rattle.rules.specs.declared.Refusal.{Refusal}
+use Rattle.print.specs.Refused.{refusedLine}
 use Rattle.report.specs.declared.ReportAnswer.{ReportAnswer}
 use Rattle.report.specs.declared.ReportAnswer.the-variants.{Written, Refused}
 
@@ -10,6 +12,19 @@ use Rattle.report.specs.declared.ReportAnswer.the-variants.{Written, Ref
 pub data Printed : Type 0 where
   lines : List ℕ → Printed
   refusedBy : Refusal → Printed
+
+-- what a program writes to standard output: the lines, or the one line of the refusal
+unfoldable pub printedBytes : Printed → List ℕ
+printedBytes (lines bytes) = bytes
+printedBytes (refusedBy x) = refusedLine (x .number) (x .place)
+
+-- the buffer's first n bytes are exactly these, and the rest keeps its contents
+pub record OutputIs (before after : List ℕ) (n : ℕ) (bytes : List ℕ) : Type 0 where
+  pub count : n ≡ length bytes
+  pub buffer : after ≡ bytes ++ drop n before
+  -- both follow; they are stated for the caller's `&out[..n]`
+  pub within : n ≤ length after
+  pub front : n ≡ length (take n after)
 
 -- the answer, and the buffer as it then is
 pub record Report : Type 0 where

@@ -4,11 +4,13 @@ use mathlib.Core.List.{List, _++_}
 use Prim.Native.Nat.{ℕ, _+_, _≤_}
 use native.Mathlib.Omega.{arith}
 use lib.ListN.{length, drop, length-append}
+use lib.Seq.{length-take-le}
 use Rattle.rules.specs.declared.Refusal.{Refusal}
 use Rattle.text.specs.Wrote.{Wrote}
 use Rattle.report.specs.declared.ReportAnswer.{ReportAnswer}
 use Rattle.report.specs.declared.ReportAnswer.the-variants.{Written, Refused}
-use Rattle.report.specs.Printed.{Printed, lines, refusedBy, Report, report, reportOf}
+use Rattle.print.specs.Refused.{refusedLine}
+use Rattle.report.specs.Printed.{Printed, lines, refusedBy, printedBytes, OutputIs, Report, report, reportOf}
 
 pub written-within : (p : Printed) (out out′ : List ℕ) (a : ReportAnswer) (n : ℕ) → report a out′ ≡ reportOf p out → a ≡ Written n → n ≤ length out′
 written-within (lines bytes) out out′ a n e q =
@@ -30,3 +32,43 @@ as-written {p} {bytes} out out′ r e w =
     ap (λ (x : ℕ). report (Written x) out′) (w .end ∙ n)
     ∙ ap (λ (y : List ℕ). report (Written (length bytes)) y) (w .whole ∙ ap (λ (k : ℕ). bytes ++ drop k out) n)
     ∙ sym (ap (λ (y : Printed). reportOf y out) e)
+
+-- ---- all that a program writes: what a report wrote, or the line of its refusal
+
+output-is : {before after : List ℕ} {n : ℕ} {bytes : List ℕ} → n ≡ length bytes → after ≡ bytes ++ drop n before → OutputIs before after n bytes
+output-is {before} {after} {n} {bytes} c b =
+    let w : n ≤ length after = omega (arith, ap length b, length-append bytes (drop n before)) in
+    record { count = c; buffer = b; within = w; front = sym (length-take-le n after w) }
+
+module _ (p : Printed) {out out′ : List ℕ} {a : ReportAnswer} (e : report a out′ ≡ reportOf p out) where
+  pub output-written : {n : ℕ} → a ≡ Written n → OutputIs out out′ n (printedBytes p)
+  unfolding printedBytes
+  output-written {n} q = go p e
+    where
+      go : (p : Printed) → report a out′ ≡ reportOf p out → OutputIs out out′ n (printedBytes p)
+      go (lines bytes) e =
+          let answer : a ≡ Written (length bytes) = ap (λ (r : Report). r .answer) e in
+          let count : n ≡ length bytes = cc in
+          output-is count (rw count (ap (λ (r : Report). r .buffer) e))
+      go (refusedBy x) e =
+          let answer : a ≡ Refused x = ap (λ (r : Report). r .answer) e in
+          let z : _≡_ {A = ℕ} 0 1 = cc in
+          absurd (omega arith)
+
+  pub output-refused : {x : Refusal} {out″ : List ℕ} {r : ℕ} → a ≡ Refused x → Wrote out′ 0 out″ r (refusedLine (x .number) (x .place))
+      → OutputIs out out″ r (printedBytes p)
+  unfolding printedBytes
+  output-refused {x} {out″} {r} q w = go p e
+    where
+      go : (p : Printed) → report a out′ ≡ reportOf p out → OutputIs out out″ r (printedBytes p)
+      go (refusedBy y) e =
+          let answer : a ≡ Refused y = ap (λ (r : Report). r .answer) e in
+          let same : x ≡ y = cc in
+          let kept : out′ ≡ out = ap (λ (r : Report). r .buffer) e in
+          let count : r ≡ length (refusedLine (x .number) (x .place)) = omega (arith, w .end) in
+          let end : 0 + length (refusedLine (x .number) (x .place)) ≡ r = omega arith in
+          rw (← same) (output-is count (rw (← kept) (rw end at (w .whole))))
+      go (lines bytes) e =
+          let answer : a ≡ Written (length bytes) = ap (λ (r : Report). r .answer) e in
+          let z : _≡_ {A = ℕ} 0 1 = cc in
+          absurd (omega arith)

@@ -40,7 +40,7 @@ front-length : (h : ℕ) (f : ℕ → ℕ) (d : List ℕ) → h ≤ length d →
 unfolding front
 front-length h f d i = omega (arith, length-append (tab h f) (drop h d), length-tab h f, length-drop h d)
 
-front-at : (h : ℕ) (f : ℕ → ℕ) (d : List ℕ) (k : ℕ) → k < h → getD (front h f d) k 0 ≡ f k
+pub front-at : (h : ℕ) (f : ℕ → ℕ) (d : List ℕ) (k : ℕ) → k < h → getD (front h f d) k 0 ≡ f k
 unfolding front
 front-at h f d k i = List·getD-append (tab h f) (drop h d) 0 k (omega (arith, length-tab h f)) ∙ getD-tab h f k i
 

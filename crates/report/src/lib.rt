@@ -1,8 +1,11 @@
 // Text in, text out: what each program prints for a text.
 mod monitors;
+mod outputs;
 mod points;
 
 pub use monitors::monitor_report;
+pub use outputs::monitor_output;
+pub use outputs::table_output;
 use rules::Refusal;
 use table::TableAnswer;
 ghost use mathlib.Core.Path.{_≡_};

@@ -1,0 +1,13 @@
+-- What the programs print, from bytes to bytes: definitions, laws, claims.
+pub mod Texts
+pub mod NewlineLaws
+pub mod LinesLaws
+pub mod TableBytes
+pub mod MonitorBytes
+pub mod Programs
+pub mod RefusalLaws
+pub mod TableProgram
+pub mod MonitorProgram
+pub mod NumberOnce
+pub mod LinesOnce
+pub mod PrintedOnce

@@ -1,0 +1,139 @@
+-- CLAIM: the monitor program, for every text, of the bytes that its output function's contract names.
+use Prim.Native.Nat.{ℕ, _≤_}
+use mathlib.Core.Path.{_≡_, refl, sym, ap, _∙_}
+use mathlib.Core.Bool.{Bool, true, false, cond}
+use mathlib.Core.List.{List, [], _∷_}
+use native.Mathlib.Omega.{arith}
+use lib.Dec.{eqb}
+use lib.IntN.{ℤ}
+use lib.ListN.{length}
+use borrow.Author.Tests.{le-leb}
+use Rattle.rules.specs.declared.Rule.{Rule}
+use Rattle.rules.specs.declared.RuleList.{RuleList}
+use Rattle.rules.specs.declared.Refusal.{Refusal}
+use Rattle.rules.specs.declared.Checked.{Checked}
+use Rattle.rules.specs.declared.Checked.the-variants.{Accepted, Refused}
+use Rattle.rules.specs.Refusal.{badSigma}
+use Rattle.rules.specs.Check.{activeRules, checkOf, within}
+use Rattle.rules.specs.CheckLaws.{between}
+use Rattle.monitor.specs.Zone.{minSigma, maxSigma}
+use Rattle.monitor.specs.Step.{maxCount, freshMonitor}
+use Rattle.monitor.specs.ReferenceChart.{quiet, signal, rowMask, charted}
+use Rattle.monitor.specs.Calls.{monitorAnswers, EachAnswer}
+use Rattle.monitor.specs.Agreement.{agreement}
+use Rattle.parse.specs.declared.monitors.MonitorText.{MonitorText}
+use Rattle.parse.specs.Rules.{listOf}
+use Rattle.parse.specs.RulesLaws.{active-rules}
+use Rattle.parse.specs.ReadingsLaws.{points-fit}
+use Rattle.parse.specs.MonitorText.{refusedMonitor, readMonitor, monitorText, monitorReadings}
+use Rattle.report.specs.Printed.{lines, refusedBy, printedBytes}
+use Rattle.report.specs.Points.{zonesOf, pointsBytes}
+use Rattle.report.specs.MonitorReport.{readingAnswers, checkedBy, chartPrinted, monitorPrinted}
+use Rattle.report.specs.MonitorReportLaws.{zones-exist, zones-length}
+use Rattle.claims.specs.Exact.{freeAnswers}
+use Rattle.claims.specs.MonitorLaws.{monitor-free}
+use Rattle.program_claims.specs.Texts.{MonitorTextIs, MonitorReading, too-long, stopped, read}
+use Rattle.program_claims.specs.MonitorBytes.{monitor-reading, monitor-read, monitor-text-once, monitor-stopped, monitor-too-long as text-too-long}
+use Rattle.program_claims.specs.Programs.{Said, MonitorPrints, MonitorProgram, bad-rules, bad-sigma}
+use Rattle.program_claims.specs.Programs.{refuses as monitor-refuses, prints as monitor-prints, too-long as monitor-too-long, bad-line as monitor-bad-line}
+use Rattle.program_claims.specs.RefusalLaws.{list-number}
+use Rattle.program_claims.specs.TableProgram.{rules-few}
+
+-- the chart that refuses none says quiet or signal each time
+free-said : (rs : List Rule) (zs row : List ℕ) → EachAnswer Said (freeAnswers rs row zs)
+unfolding freeAnswers EachAnswer
+free-said rs [] row = tt
+free-said rs (z ∷ zs) row = (go (eqb (rowMask rs (z ∷ row)) 0), free-said rs zs _)
+  where
+    go : (b : Bool) → Said (cond b (charted (quiet (length (z ∷ row))) (z ∷ row)) (charted (signal (length (z ∷ row)) (rowMask rs (z ∷ row))) []) .answer)
+    go true = tt
+    go false = tt
+
+module _ (l : RuleList) (ok : checkOf l ≡ Accepted) (centre : ℤ) (sigma : ℕ) (xs : List ℤ) (few : length xs ≤ maxCount) where
+  zs : List ℕ
+  zs = zonesOf centre sigma xs
+
+  free : monitorAnswers l freshMonitor zs ≡ freeAnswers (activeRules l) [] zs
+  unfolding zs
+  free = monitor-free l ok zs (zones-exist centre sigma xs) (omega (arith, zones-length centre sigma xs))
+
+  points-printed : MonitorPrints centre sigma (activeRules l) xs (pointsBytes (readingAnswers l centre sigma xs))
+  unfolding zs
+  points-printed =
+      record {
+        lines = ap pointsBytes free;
+        chart = sym (agreement l ok zs) ∙ free;
+        said = free-said (activeRules l) zs [];
+      }
+
+same-points : {centre : ℤ} {sigma : ℕ} {rs rs′ : List Rule} {xs : List ℤ} {printed : List ℕ} → rs ≡ rs′ → MonitorPrints centre sigma rs xs printed
+    → MonitorPrints centre sigma rs′ xs printed
+same-points p t = rw (← p) t
+
+outside : (low high x : ℕ) → within low high x ≡ false → (low ≤ x) × (x ≤ high) → ⊥
+outside low high x e i =
+    let q : within low high x ≡ true = rw (le-leb low x (i .0), le-leb x high (i .1)) in
+    let z : _≡_ {A = ℕ} 0 1 = cc in
+    omega arith
+
+module _ (s : List ℕ) (centre : ℤ) (sigma : ℕ) (rs : List Rule) (xs : List ℤ) (is : MonitorTextIs s centre sigma rs xs) (few : length xs ≤ maxCount) where
+  by-sigma : checkOf (listOf rs) ≡ Accepted → (t : Bool) → within minSigma maxSigma sigma ≡ t
+      → MonitorProgram s (printedBytes (cond t (lines (pointsBytes (readingAnswers (listOf rs) centre sigma xs))) (refusedBy badSigma)))
+  unfolding printedBytes
+  by-sigma ok true e =
+      monitor-prints centre sigma rs xs is ok (between minSigma maxSigma sigma e)
+      (same-points (active-rules rs (rules-few rs ok)) (points-printed (listOf rs) ok centre sigma xs few))
+  by-sigma ok false e = monitor-refuses 1 0 refl (bad-sigma centre sigma rs xs is ok (outside minSigma maxSigma sigma e))
+
+  by-check : (c : Checked) → checkOf (listOf rs) ≡ c
+      → MonitorProgram s (printedBytes (checkedBy c (cond (within minSigma maxSigma sigma) (lines (pointsBytes (readingAnswers (listOf rs) centre sigma xs))) (refusedBy badSigma))))
+  unfolding printedBytes
+  by-check Accepted e = by-sigma e (within minSigma maxSigma sigma) refl
+  by-check (Refused x) e = monitor-refuses (x .number) (x .place) refl (bad-rules centre sigma rs xs x is e (list-number (listOf rs) x e))
+
+-- a text has few points
+text-few : {s : List ℕ} {centre : ℤ} {sigma : ℕ} {rs : List Rule} {xs : List ℤ} → MonitorTextIs s centre sigma rs xs → length xs ≤ maxCount
+text-few {s} {centre} {sigma} {rs} {xs} t =
+    let m = monitor-read t in
+    omega (arith, points-fit (length s) s (monitorText s .points), ap length (m .2), t .short)
+
+-- For every text: one refusal line, with the number and the place of a reason that holds of the text; or the text is the lines of a chart,
+-- rules and readings, and what is printed is exactly the lines of the plain chart on the readings' zones, and the total.
+pub monitor-program : (s : List ℕ) → MonitorProgram s (printedBytes (monitorPrinted s))
+unfolding monitorPrinted printedBytes refusedMonitor readMonitor
+monitor-program s = go (monitorText s) (monitor-reading s) (monitorReadings s) (λ c d rs xs i. monitor-read i .2)
+  where
+    go : (t : MonitorText) → MonitorReading s t → (ys : List ℤ)
+        → ((c : ℤ) (d : ℕ) (rs : List Rule) (xs : List ℤ) → MonitorTextIs s c d rs xs → ys ≡ xs)
+        → MonitorProgram s (printedBytes (cond (eqb (t .refusal .number) 0) (chartPrinted (t .list) (t .centre) (t .sigma) ys) (refusedBy (t .refusal))))
+    go t (too-long l) ys f = monitor-refuses 17 0 refl (monitor-too-long l)
+    go t (stopped front rest place l e st p) ys f = monitor-refuses 16 place refl (monitor-bad-line front rest place l e st p)
+    go t (read c d rs at xs i e) ys f = rw (f c d rs xs i) (by-check s c d rs xs i (text-few i) (checkOf (listOf rs)) refl)
+
+-- The other way round: a text that is the lines of a chart, rules and readings which are in bounds is not refused.
+pub monitor-printed : {s : List ℕ} {c : ℤ} {d : ℕ} {rs : List Rule} {xs : List ℤ} → MonitorTextIs s c d rs xs → checkOf (listOf rs) ≡ Accepted
+    → (minSigma ≤ d) × (d ≤ maxSigma) → MonitorPrints c d rs xs (printedBytes (monitorPrinted s))
+unfolding refusedMonitor readMonitor
+monitor-printed {s} {c} {d} {rs} {xs} is ok bounds = go (monitor-program s)
+  where
+    clash : {A : Type 0} {t : MonitorText} → monitorText s ≡ t → (t .refusal .number ≡ 0 → ⊥) → A
+    clash e n = absurd (n (ap (λ (t : MonitorText). t .refusal .number) (sym e ∙ monitor-read is .1)))
+
+    checked : {c′ : ℤ} {d′ : ℕ} {rs′ : List Rule} {xs′ : List ℤ} {x : Refusal} → MonitorTextIs s c′ d′ rs′ xs′ → checkOf (listOf rs′) ≡ Refused x → ⊥
+    checked {c′} {d′} {rs′} {xs′} {x} is′ e =
+        let q : checkOf (listOf rs) ≡ Refused x = rw (monitor-text-once is is′ .2) e in
+        let z : _≡_ {A = ℕ} 0 1 = cc in
+        omega arith
+
+    put : {c′ : ℤ} {d′ : ℕ} {rs′ : List Rule} {xs′ : List ℤ} {printed : List ℕ} → c′ ≡ c → d′ ≡ d → rs′ ≡ rs → xs′ ≡ xs
+        → MonitorPrints c′ d′ rs′ xs′ printed → MonitorPrints c d rs xs printed
+    put p q r t m = rw (← p, ← q, ← r, ← t) m
+
+    go : MonitorProgram s (printedBytes (monitorPrinted s)) → MonitorPrints c d rs xs (printedBytes (monitorPrinted s))
+    go (monitor-refuses n p e (monitor-too-long l)) = clash (text-too-long s l) (λ z. omega arith)
+    go (monitor-refuses n p e (monitor-bad-line front rest place l q st r)) = clash (monitor-stopped l q st) (λ z. omega arith)
+    go (monitor-refuses n p e (bad-rules c′ d′ rs′ xs′ x is′ q o)) = absurd (checked is′ q)
+    go (monitor-refuses n p e (bad-sigma c′ d′ rs′ xs′ is′ q b)) = absurd (b (rw (← (monitor-text-once is is′ .1)) bounds))
+    go (monitor-prints c′ d′ rs′ xs′ is′ q b m) =
+        let o = monitor-text-once is′ is in
+        put (o .0) (o .1) (o .2) (o .3) m

@@ -1,0 +1,313 @@
+-- CLAIMS: what is printed determines the numbers; and by which numbers no text is refused.
+use Prim.Native.Nat.{ℕ, zero, suc, _+_, _≤_, _<_}
+use mathlib.Core.Path.{_≡_, refl, sym, ap, _∙_}
+use mathlib.Core.Bool.{Bool, true, false, cond}
+use mathlib.Core.List.{List, [], _∷_, _++_, append-assoc, append-nil}
+use native.Mathlib.Omega.{arith}
+use lib.Dec.{ltb, eqb}
+use lib.IntN.{ℤ}
+use lib.ListN.{getD}
+use borrow.Author.Tests.{ltb-true, ltb-false, eq-eqb}
+use Rattle.rules.specs.declared.Rule.{Rule}
+use Rattle.monitor.specs.ReferenceChart.{Answer, refused, quiet, signal}
+use Rattle.monitor.specs.Calls.{EachAnswer}
+use Rattle.bracket.specs.declared.BracketAnswer.{BracketAnswer}
+use Rattle.bracket.specs.declared.BracketAnswer.the-variants.{Refused, At, Between, Open, Beyond}
+use Rattle.text.specs.declared.lines.ZoneWeights.{ZoneWeights}
+use Rattle.text.specs.Format.{fields, weightList}
+use Rattle.print.specs.Refused.{refusedLine}
+use Rattle.print.specs.Monitor.{quietLine, signalLine, totalLine}
+use Rattle.print.specs.Row.{standingsLine, headerLine, rowLine, arlLine}
+use Rattle.print.specs.Percentile.{bracketLine}
+use Rattle.report.specs.Printed.{printedBytes}
+use Rattle.report.specs.Points.{zonesOf, answerLines, pointsBytes}
+use Rattle.report.specs.TableReport.{tablePrinted}
+use Rattle.report.specs.MonitorReport.{monitorPrinted}
+use Rattle.claims.specs.Exact.{freeAnswers, ContainsPercentile}
+use Rattle.program_claims.specs.Texts.{TableTextIs, MonitorTextIs}
+use Rattle.program_claims.specs.NumberOnce.{comma, not-number, behind-once}
+use Rattle.program_claims.specs.LinesOnce.{row-shape, standings-once, arl-once, refused-once, quiet-once, signal-once, row-once, Placed, bracket-once}
+use Rattle.program_claims.specs.Programs.{OneOf, here, there, rows, fivePercents, EachPercent, Figures, figureLines, FiguresHold}
+use Rattle.program_claims.specs.Programs.{TableRefusal, TableProgram, refuses, prints, too-long, bad-line, bad-table}
+use Rattle.program_claims.specs.Programs.{Said, MonitorRefusal, MonitorProgram, bad-rules, bad-sigma}
+use Rattle.program_claims.specs.TableProgram.{table-program}
+use Rattle.program_claims.specs.MonitorProgram.{monitor-program}
+
+-- ---- rows, from the first on
+
+rowsFrom : ℕ → ℕ → (ℕ → List ℕ) → List ℕ
+rowsFrom zero i f = []
+rowsFrom (suc k) i f = f i ++ rowsFrom k (suc i) f
+
+rows-snoc : (k i : ℕ) (f : ℕ → List ℕ) → rowsFrom (suc k) i f ≡ rowsFrom k i f ++ f (i + k)
+unfolding rowsFrom
+rows-snoc zero i f = let e : i + 0 ≡ i = omega arith in rw (e, append-nil)
+rows-snoc (suc k) i f =
+    let e : suc i + k ≡ i + suc k = omega arith in
+    ap (λ l. f i ++ l) (rows-snoc k (suc i) f) ∙ sym (append-assoc (f i) (rowsFrom k (suc i) f) (f (suc i + k)))
+    ∙ ap (λ n. f i ++ rowsFrom k (suc i) f ++ f n) e
+
+rows-from : (h : ℕ) (f : ℕ → List ℕ) → rows h f ≡ rowsFrom h 1 f
+unfolding rows rowsFrom
+rows-from zero f = refl
+rows-from (suc h) f =
+    let e : 1 + h ≡ suc h = omega arith in
+    rw (rows-from h f) (ap (λ n. rowsFrom h 1 f ++ f n) (sym e) ∙ sym (rows-snoc h 1 f))
+
+abbrev rowOf : Figures → ℕ → List ℕ
+rowOf f n = rowLine n (f .chance n) (f .by n) (f .left n)
+
+-- the row n has the same numbers
+abbrev pub SameRow : Figures → Figures → ℕ → Type 0
+SameRow f g n = (f .chance n ≡ g .chance n) × (f .by n ≡ g .by n) × (f .left n ≡ g .left n)
+
+-- behind the rows comes an `a`, which begins no row
+rows-once : (f g : Figures) (k k′ i : ℕ) (xs ys : List ℕ) → rowsFrom k i (rowOf f) ++ (97 ∷ xs) ≡ rowsFrom k′ i (rowOf g) ++ (97 ∷ ys)
+    → (k ≡ k′) × ((n : ℕ) → i ≤ n → n < i + k → SameRow f g n) × (_≡_ {A = List ℕ} (97 ∷ xs) (97 ∷ ys))
+unfolding rowsFrom fields
+rows-once f g zero zero i xs ys e = (refl, λ n p q. absurd (omega arith), e)
+rows-once f g zero (suc k′) i xs ys e =
+    absurd (not-number i comma refl refl refl (sym (e ∙ append-assoc (rowOf g i) (rowsFrom k′ (suc i) (rowOf g)) (97 ∷ ys) ∙ row-shape i _ _ _ _)))
+rows-once f g (suc k) zero i xs ys e =
+    absurd (not-number i comma refl refl refl (sym (sym e ∙ append-assoc (rowOf f i) (rowsFrom k (suc i) (rowOf f)) (97 ∷ xs) ∙ row-shape i _ _ _ _)))
+rows-once f g (suc k) (suc k′) i xs ys e =
+    let o = row-once i _ _ _ i _ _ _
+    (sym (append-assoc (rowOf f i) (rowsFrom k (suc i) (rowOf f)) (97 ∷ xs)) ∙ e ∙ append-assoc (rowOf g i) (rowsFrom k′ (suc i) (rowOf g)) (97 ∷ ys)) in
+    let r = rows-once f g k k′ (suc i) xs ys (o .4) in
+    (ap suc (r .0), (λ n p q. row n p q (o .1, o .2, o .3) (r .1)), r .2)
+  where
+    row : (n : ℕ) → i ≤ n → n < i + suc k → SameRow f g i → ((m : ℕ) → suc i ≤ m → m < suc i + k → SameRow f g m) → SameRow f g n
+    row n p q s t = go (ltb i n) refl
+      where
+        go : (b : Bool) → ltb i n ≡ b → SameRow f g n
+        go true c = t n (omega (arith, ltb-true i n c)) (omega arith)
+        go false c = let z : i ≡ n = omega (arith, ltb-false i n c) in rw z at s
+
+-- ---- a whole table
+
+regroup : (a b c d e : List ℕ) → a ++ b ++ c ++ d ++ e ≡ a ++ (b ++ (c ++ (d ++ e)))
+regroup a b c d e = simp append-assoc
+
+pub record SameFigures (h : ℕ) (f g : Figures) : Type 0 where
+  pub states : f .states ≡ g .states
+  pub row : (n : ℕ) → 1 ≤ n → n ≤ h → SameRow f g n
+  pub whole : f .whole ≡ g .whole
+  pub fraction : f .fraction ≡ g .fraction
+  pub shortfall : f .shortfall ≡ g .shortfall
+  pub brackets : EachPercent (λ p. f .bracket p ≡ g .bracket p)
+
+abbrev q : Figures → ℕ → List ℕ
+q f p = bracketLine p (f .bracket p)
+
+abbrev arl : Figures → List ℕ
+arl f = arlLine (f .whole) (f .fraction) (f .shortfall)
+
+-- The lines of a table determine how many rows there are and every number in them.
+pub table-once : (h h′ : ℕ) (f g : Figures) → EachPercent (λ p. Placed (f .bracket p)) → figureLines h f ≡ figureLines h′ g → (h ≡ h′) × SameFigures h f g
+unfolding figureLines arlLine
+table-once h h′ f g i e =
+    let a = standings-once (f .states) (g .states)
+    (sym (regroup (standingsLine (f .states)) headerLine (rows h (rowOf f)) (arl f) (fivePercents (q f))) ∙ e
+    ∙ regroup (standingsLine (g .states)) headerLine (rows h′ (rowOf g)) (arl g) (fivePercents (q g))) in
+    let b : rows h (rowOf f) ++ (arl f ++ fivePercents (q f)) ≡ rows h′ (rowOf g) ++ (arl g ++ fivePercents (q g)) = behind-once headerLine (a .1) in
+    let b′ : rowsFrom h 1 (rowOf f) ++ (arl f ++ fivePercents (q f)) ≡ rowsFrom h′ 1 (rowOf g) ++ (arl g ++ fivePercents (q g)) =
+    rw (← rows-from h (rowOf f), ← rows-from h′ (rowOf g)) b in
+    let c = rows-once f g h h′ 1 _ _ b′ in
+    let d = arl-once _ _ _ _ _ _ (c .2) in
+    let five = sym (regroup (q f 5) (q f 25) (q f 50) (q f 75) (q f 95)) ∙ d .3 ∙ regroup (q g 5) (q g 25) (q g 50) (q g 75) (q g 95) in
+    let q5 = bracket-once 5 _ _ (i .0) _ _ five in
+    let q25 = bracket-once 25 _ _ (i .1) _ _ (q5 .1) in
+    let q50 = bracket-once 50 _ _ (i .2) _ _ (q25 .1) in
+    let q75 = bracket-once 75 _ _ (i .3) _ _ (q50 .1) in
+    let q95 = bracket-once 95 _ _ (i .4) [] [] (append-nil (q f 95) ∙ q75 .1 ∙ sym (append-nil (q g 95))) in (
+      c .0,
+      record {
+        states = a .0;
+        row = λ n p r. c .1 n p (omega arith);
+        whole = d .0;
+        fraction = d .1;
+        shortfall = d .2;
+        brackets = (q5 .0, q25 .0, q50 .0, q75 .0, q95 .0);
+      },
+    )
+
+-- ---- numbers with the same lines hold alike
+
+contains-placed : (test : ℕ → Bool) (a : BracketAnswer) → ContainsPercentile test a → Placed a
+unfolding ContainsPercentile
+contains-placed test (Refused x) c = c
+contains-placed test (At n) c = tt
+contains-placed test (Between low high) c = tt
+contains-placed test (Open low) c = tt
+contains-placed test (Beyond h) c = tt
+
+same-hold : {w : List ℕ} {rs : List Rule} {h : ℕ} {f g : Figures} → SameFigures h f g → FiguresHold w rs h f → FiguresHold w rs h g
+same-hold {w} {rs} {h} {f} {g} e t =
+    let q = e .brackets in
+    let c = t .contains in
+    record {
+      states-are = sym (e .states) ∙ t .states-are;
+      chances-are = λ n i j. sym (e .row n i j .0) ∙ t .chances-are n i j;
+      by-is = λ n i j. sym (e .row n i j .1) ∙ t .by-is n i j;
+      left-is = λ n i j. sym (e .row n i j .2) ∙ t .left-is n i j;
+      mean-is = rw (← e .whole, ← e .fraction) (t .mean-is);
+      fraction-below = rw (← e .fraction) (t .fraction-below);
+      shortfall-is = rw (← e .shortfall, ← e .states) (t .shortfall-is);
+      by-bounds = λ n i j. rw (← (e .row n i j .1), ← e .states) (t .by-bounds n i j);
+      mean-bounds = rw (← e .whole, ← e .fraction, ← e .shortfall) (t .mean-bounds);
+      contains = (rw (← (q .0)) (c .0), rw (← (q .1)) (c .1), rw (← (q .2)) (c .2), rw (← (q .3)) (c .3), rw (← (q .4)) (c .4));
+    }
+
+-- a table's first byte is no refusal's
+table-not-refused : (h : ℕ) (f : Figures) (n p : ℕ) → figureLines h f ≡ refusedLine n p → ⊥
+unfolding figureLines standingsLine refusedLine
+table-not-refused h f n p e = let z : _≡_ {A = ℕ} 115 114 = ap (λ l. getD l 0 0) e in omega arith
+
+same-text : {s : List ℕ} {w : ZoneWeights} {rs : List Rule} {h h′ : ℕ} → h ≡ h′ → TableTextIs s w rs h → TableTextIs s w rs h′
+same-text e t = rw (← e) t
+
+same-rows : {w : List ℕ} {rs : List Rule} {h h′ : ℕ} {g : Figures} → h ≡ h′ → FiguresHold w rs h g → FiguresHold w rs h′ g
+same-rows e t = rw (← e) t
+
+-- Whoever reads the table program's output as the lines of h rows of any numbers g reads numbers that hold, of the weights, the rules and the
+-- horizon h whose lines the text is.
+pub table-read-off : (s : List ℕ) (h : ℕ) (g : Figures) → printedBytes (tablePrinted s) ≡ figureLines h g
+    → (w : ZoneWeights) × (rs : List Rule) × TableTextIs s w rs h × FiguresHold (weightList w) rs h g
+table-read-off s h g e = go (table-program s)
+  where
+    go : TableProgram s (printedBytes (tablePrinted s)) → (w : ZoneWeights) × (rs : List Rule) × TableTextIs s w rs h × FiguresHold (weightList w) rs h g
+    go (refuses number place q r) = absurd (table-not-refused h g number place (sym e ∙ q))
+    go (prints w rs k f is ok q t) =
+        let c = t .contains in
+        let o = table-once k h f g (contains-placed _ _ (c .0), contains-placed _ _ (c .1), contains-placed _ _ (c .2), contains-placed _ _ (c .3), contains-placed _ _ (c .4)) (sym q ∙ e) in
+        (w, rs, same-text (o .0) is, same-rows (o .0) (same-hold (o .1) t))
+
+-- ---- the monitor's lines
+
+-- what an answer's line and those behind it begin with: `t` where there is no answer
+answers-once : (os bs : List Answer) (n m n′ m′ : ℕ) → EachAnswer Said os → EachAnswer Said bs
+    → answerLines os ++ totalLine n m ≡ answerLines bs ++ totalLine n′ m′ → os ≡ bs
+unfolding answerLines EachAnswer quietLine signalLine totalLine
+answers-once [] [] n m n′ m′ i j e = refl
+answers-once [] (refused x ∷ bs) n m n′ m′ i j e = absurd (j .0)
+answers-once [] (quiet x ∷ bs) n m n′ m′ i j e = let z : _≡_ {A = ℕ} 116 113 = ap (λ l. getD l 0 0) e in absurd (omega arith)
+answers-once [] (signal x y ∷ bs) n m n′ m′ i j e = let z : _≡_ {A = ℕ} 116 115 = ap (λ l. getD l 0 0) e in absurd (omega arith)
+answers-once (refused x ∷ os) bs n m n′ m′ i j e = absurd (i .0)
+answers-once (quiet x ∷ os) [] n m n′ m′ i j e = let z : _≡_ {A = ℕ} 113 116 = ap (λ l. getD l 0 0) e in absurd (omega arith)
+answers-once (quiet x ∷ os) (refused y ∷ bs) n m n′ m′ i j e = absurd (j .0)
+answers-once (quiet x ∷ os) (quiet y ∷ bs) n m n′ m′ i j e =
+    let o = quiet-once x y
+    (sym (append-assoc (quietLine x) (answerLines os) (totalLine n m)) ∙ e ∙ append-assoc (quietLine y) (answerLines bs) (totalLine n′ m′)) in
+    let r = answers-once os bs n m n′ m′ (i .1) (j .1) (o .1) in
+    cc (o .0)
+answers-once (quiet x ∷ os) (signal y z ∷ bs) n m n′ m′ i j e = let z : _≡_ {A = ℕ} 113 115 = ap (λ l. getD l 0 0) e in absurd (omega arith)
+answers-once (signal x y ∷ os) [] n m n′ m′ i j e = let z : _≡_ {A = ℕ} 115 116 = ap (λ l. getD l 0 0) e in absurd (omega arith)
+answers-once (signal x y ∷ os) (refused z ∷ bs) n m n′ m′ i j e = absurd (j .0)
+answers-once (signal x y ∷ os) (quiet z ∷ bs) n m n′ m′ i j e = let z : _≡_ {A = ℕ} 115 113 = ap (λ l. getD l 0 0) e in absurd (omega arith)
+answers-once (signal x y ∷ os) (signal x′ y′ ∷ bs) n m n′ m′ i j e =
+    let o = signal-once x y x′ y′
+    (sym (append-assoc (signalLine x y) (answerLines os) (totalLine n m)) ∙ e ∙ append-assoc (signalLine x′ y′) (answerLines bs) (totalLine n′ m′)) in
+    let r = answers-once os bs n m n′ m′ (i .1) (j .1) (o .2) in
+    cc (o .0, o .1)
+
+pub points-once : (os bs : List Answer) → EachAnswer Said os → EachAnswer Said bs → pointsBytes os ≡ pointsBytes bs → os ≡ bs
+unfolding pointsBytes
+points-once os bs i j e = answers-once os bs _ _ _ _ i j e
+
+points-not-refused : (os : List Answer) (n p : ℕ) → EachAnswer Said os → pointsBytes os ≡ refusedLine n p → ⊥
+unfolding pointsBytes answerLines EachAnswer quietLine signalLine totalLine refusedLine
+points-not-refused [] n p i e = let z : _≡_ {A = ℕ} 116 114 = ap (λ l. getD l 0 0) e in omega arith
+points-not-refused (refused x ∷ os) n p i e = i .0
+points-not-refused (quiet x ∷ os) n p i e = let z : _≡_ {A = ℕ} 113 114 = ap (λ l. getD l 0 0) e in omega arith
+points-not-refused (signal x y ∷ os) n p i e = let z : _≡_ {A = ℕ} 115 114 = ap (λ l. getD l 0 0) e in omega arith
+
+-- Whoever reads the monitor program's output as the lines of any answers reads the plain chart's, for the readings whose lines the text has.
+pub monitor-read-off : (s : List ℕ) (os : List Answer) → EachAnswer Said os → printedBytes (monitorPrinted s) ≡ pointsBytes os
+    → (centre : ℤ) × (sigma : ℕ) × (rs : List Rule) × (xs : List ℤ) × MonitorTextIs s centre sigma rs xs × (os ≡ freeAnswers rs [] (zonesOf centre sigma xs))
+monitor-read-off s os i e = go (monitor-program s)
+  where
+    go : MonitorProgram s (printedBytes (monitorPrinted s))
+        → (centre : ℤ) × (sigma : ℕ) × (rs : List Rule) × (xs : List ℤ) × MonitorTextIs s centre sigma rs xs × (os ≡ freeAnswers rs [] (zonesOf centre sigma xs))
+    go (refuses number place q r) = absurd (points-not-refused os number place i (sym e ∙ q))
+    go (prints c d rs xs is ok b t) = (c, d, rs, xs, is, points-once os _ i (t .said) (sym e ∙ t .lines))
+
+-- ---- numbers that no program prints
+
+-- whether n is among the numbers, and whether none of the first is among the second
+elem : ℕ → List ℕ → Bool
+elem n [] = false
+elem n (m ∷ ms) = cond (eqb n m) true (elem n ms)
+
+apart : List ℕ → List ℕ → Bool
+apart [] ms = true
+apart (n ∷ ns) ms = cond (elem n ms) false (apart ns ms)
+
+elem-true : {n : ℕ} {ms : List ℕ} → OneOf ms n → elem n ms ≡ true
+unfolding elem
+elem-true {n} (here {n = m} e) = rw (eq-eqb n m e)
+elem-true {n} (there {n = m} o) = go (eqb n m) (elem-true o)
+  where
+    go : (b : Bool) {x : Bool} → x ≡ true → cond b true x ≡ true
+    go true e = refl
+    go false e = e
+
+apart-never : {n : ℕ} {ns : List ℕ} (ms : List ℕ) → apart ns ms ≡ true → OneOf ns n → OneOf ms n → ⊥
+unfolding apart
+apart-never {n} ms a (here {n = m} {x} {ns} e) o =
+    let q : elem m ms ≡ true = rw e at (elem-true o) in
+    let r = rw q at a in
+    let z : _≡_ {A = ℕ} 0 1 = cc in
+    omega arith
+apart-never {n} ms a (there {n = m} {x} {ns} p) o = apart-never ms (go (elem m ms) a) p o
+  where
+    go : (b : Bool) → cond b false (apart ns ms) ≡ true → apart ns ms ≡ true
+    go true e = let z : _≡_ {A = ℕ} 0 1 = cc in absurd (omega arith)
+    go false e = e
+
+-- the numbers that library calls alone give
+abbrev pub libraryNumbers : List ℕ
+libraryNumbers = 5 ∷ 6 ∷ 7 ∷ 11 ∷ 12 ∷ 13 ∷ 14 ∷ 15 ∷ []
+
+-- and those that a table text, or a monitor text, is refused by
+abbrev pub tableNumbers : List ℕ
+tableNumbers = 17 ∷ 16 ∷ 2 ∷ 3 ∷ 4 ∷ 8 ∷ 9 ∷ 10 ∷ []
+
+abbrev pub monitorNumbers : List ℕ
+monitorNumbers = 17 ∷ 16 ∷ 1 ∷ 2 ∷ 3 ∷ 4 ∷ []
+
+table-numbers : {s : List ℕ} {n p : ℕ} → TableRefusal s n p → OneOf tableNumbers n
+table-numbers (too-long l) = here refl
+table-numbers (bad-line front rest place l e st q) = there (here refl)
+table-numbers (bad-table w rs h x is c o) = there (there o)
+
+monitor-numbers : {s : List ℕ} {n p : ℕ} → MonitorRefusal s n p → OneOf monitorNumbers n
+monitor-numbers (too-long l) = here refl
+monitor-numbers (bad-line front rest place l e st q) = there (here refl)
+monitor-numbers (bad-rules c d rs xs x is q o) = there (there (there o))
+monitor-numbers (bad-sigma c d rs xs is ok b) = there (there (here refl))
+
+refused-number : (n p n′ p′ : ℕ) → refusedLine n p ≡ refusedLine n′ p′ → n ≡ n′
+refused-number n p n′ p′ e = refused-once {xs = []} {ys = []} n p n′ p′ (append-nil (refusedLine n p) ∙ e ∙ sym (append-nil (refusedLine n′ p′))) .0
+
+-- A refusal that the table program prints has one of its numbers; so 5, 6, 7 and 11 to 15 are never printed.
+pub table-refusals : (s : List ℕ) (n p : ℕ) → printedBytes (tablePrinted s) ≡ refusedLine n p → OneOf tableNumbers n
+table-refusals s n p e = go (table-program s)
+  where
+    go : TableProgram s (printedBytes (tablePrinted s)) → OneOf tableNumbers n
+    go (refuses number place q r) = rw (refused-number n p number place (sym e ∙ q)) (table-numbers r)
+    go (prints w rs h f is ok q t) = absurd (table-not-refused h f n p (sym q ∙ e))
+
+pub table-never : (s : List ℕ) (n p : ℕ) → OneOf libraryNumbers n → printedBytes (tablePrinted s) ≡ refusedLine n p → ⊥
+unfolding apart elem
+table-never s n p o e = apart-never libraryNumbers refl (table-refusals s n p e) o
+
+pub monitor-refusals : (s : List ℕ) (n p : ℕ) → printedBytes (monitorPrinted s) ≡ refusedLine n p → OneOf monitorNumbers n
+monitor-refusals s n p e = go (monitor-program s)
+  where
+    go : MonitorProgram s (printedBytes (monitorPrinted s)) → OneOf monitorNumbers n
+    go (refuses number place q r) = rw (refused-number n p number place (sym e ∙ q)) (monitor-numbers r)
+    go (prints c d rs xs is ok b t) = absurd (points-not-refused _ n p (t .said) (sym (t .lines) ∙ e))
+
+pub monitor-never : (s : List ℕ) (n p : ℕ) → OneOf libraryNumbers n → printedBytes (monitorPrinted s) ≡ refusedLine n p → ⊥
+unfolding apart elem
+monitor-never s n p o e = apart-never libraryNumbers refl (monitor-refusals s n p e) o

@@ -1,0 +1,135 @@
+-- What a text's printed bytes are claimed to be: one refusal line and its reason, or the lines of figures that demands 2 and 3 speak of. Definitions.
+use Prim.Native.Nat.{ℕ, zero, suc, _+_, _-_, _*_, _/_, _^_, _≤_, _<_}
+use mathlib.Core.Path.{_≡_}
+use mathlib.Core.List.{List, [], _∷_, _++_}
+use lib.IntN.{ℤ}
+use lib.ListN.{length}
+use Rattle.rules.specs.declared.Rule.{Rule}
+use Rattle.rules.specs.declared.Refusal.{Refusal}
+use Rattle.rules.specs.declared.Checked.the-variants.{Accepted, Refused}
+use Rattle.rules.specs.Check.{checkOf}
+use Rattle.runlength.specs.Chain.{pmf, cdf, survival, restrictedMean}
+use Rattle.monitor.specs.Zone.{minSigma, maxSigma}
+use Rattle.monitor.specs.ReferenceChart.{Answer, refused, quiet, signal, chartAnswers}
+use Rattle.monitor.specs.Calls.{EachAnswer}
+use Rattle.table.specs.Table.{stateCount, tableChain, tableCheck}
+use Rattle.bracket.specs.declared.BracketAnswer.{BracketAnswer}
+use Rattle.text.specs.declared.lines.ZoneWeights.{ZoneWeights}
+use Rattle.text.specs.Format.{weightList}
+use Rattle.parse.specs.Limits.{maxText}
+use Rattle.parse.specs.Rules.{listOf}
+use Rattle.print.specs.Refused.{refusedLine}
+use Rattle.print.specs.Row.{standingsLine, headerLine, rowLine, arlLine}
+use Rattle.print.specs.Percentile.{bracketLine}
+use Rattle.print.specs.Table.{maxRows}
+use Rattle.report.specs.TableReport.{reportHorizon}
+use Rattle.report.specs.Points.{zonesOf, pointsBytes}
+use Rattle.claims.specs.Exact.{freeAnswers, exactSum, exactMean, reached, ContainsPercentile}
+use Rattle.program_claims.specs.Texts.{TableTextIs, TableStops, MonitorTextIs, MonitorStops, newlines}
+
+-- x is one of the numbers
+pub data OneOf : List ℕ → ℕ → Type 0 where
+  here : {n x : ℕ} {ns : List ℕ} → x ≡ n → OneOf (n ∷ ns) x
+  there : {n x : ℕ} {ns : List ℕ} → OneOf ns x → OneOf (n ∷ ns) x
+
+-- ---- the table program
+
+-- f 1, f 2, .., f h, one behind the other
+unfoldable pub rows : ℕ → (ℕ → List ℕ) → List ℕ
+rows zero f = []
+rows (suc n) f = rows n f ++ f (suc n)
+
+-- the five percentiles that are printed: their lines, and what holds of each
+abbrev pub fivePercents : (ℕ → List ℕ) → List ℕ
+fivePercents f = f 5 ++ f 25 ++ f 50 ++ f 75 ++ f 95
+
+abbrev pub EachPercent : (ℕ → Type 0) → Type 0
+EachPercent P = P 5 × P 25 × P 50 × P 75 × P 95
+
+-- the numbers that a table prints: N, the columns of the rows by n, the arl line's three, and where each percentile lies
+pub record Figures : Type 0 where
+  pub states : ℕ
+  pub chance : ℕ → ℕ
+  pub by : ℕ → ℕ
+  pub left : ℕ → ℕ
+  pub whole : ℕ
+  pub fraction : ℕ
+  pub shortfall : ℕ
+  pub bracket : ℕ → BracketAnswer
+
+-- all the lines of a table with h rows
+unfoldable pub figureLines : ℕ → Figures → List ℕ
+figureLines h f =
+    standingsLine (f .states)
+    ++ headerLine
+    ++ rows h (λ n. rowLine n (f .chance n) (f .by n) (f .left n))
+    ++ arlLine (f .whole) (f .fraction) (f .shortfall)
+    ++ fivePercents (λ p. bracketLine p (f .bracket p))
+
+-- The numbers are document 01's figures for these weights, rules and horizon to the last unit, and they bound the exact ones.
+pub record FiguresHold (w : List ℕ) (rs : List Rule) (h : ℕ) (f : Figures) : Type 0 where
+  -- demand 2: the figures of the round-down steps
+  pub states-are : f .states ≡ stateCount rs
+  pub chances-are : (n : ℕ) → 1 ≤ n → n ≤ h → f .chance n ≡ pmf (tableChain rs w) n
+  pub by-is : (n : ℕ) → 1 ≤ n → n ≤ h → f .by n ≡ cdf (tableChain rs w) n
+  pub left-is : (n : ℕ) → 1 ≤ n → n ≤ h → f .left n ≡ survival (tableChain rs w) n
+  pub mean-is : f .whole * 2 ^ 60 + f .fraction ≡ restrictedMean (tableChain rs w) h
+  pub fraction-below : f .fraction < 2 ^ 60
+  pub shortfall-is : f .shortfall ≡ f .states * h * (h - 1) / 2
+  -- demand 3: the chance by n in the row n never exceeds the exact sum, and falls short of it by less than n × (N + 1) units
+  pub by-bounds : (n : ℕ) → 1 ≤ n → n ≤ h
+      → (f .by n * 2 ^ (30 * n) ≤ exactSum rs w n * 2 ^ 60) × (exactSum rs w n * 2 ^ 60 < (f .by n + n * (f .states + 1)) * 2 ^ (30 * n))
+  -- the exact mean is at or above the arl line's whole and fraction, by at most its shortfall
+  pub mean-bounds : ((f .whole * 2 ^ 60 + f .fraction) * 2 ^ (30 * h) ≤ exactMean rs w h * 2 ^ 60)
+      × (exactMean rs w h * 2 ^ 60 ≤ (f .whole * 2 ^ 60 + f .fraction + f .shortfall) * 2 ^ (30 * h))
+  -- each q line contains the true percentile
+  pub contains : EachPercent (λ p. ContainsPercentile (reached rs w p) (f .bracket p))
+
+-- why a table text is refused, with the number and the place: the text itself, 17 or 16; or its rules, weights and horizon, the first number
+-- of the table operation's that applies
+pub data TableRefusal (s : List ℕ) : ℕ → ℕ → Type 0 where
+  too-long : maxText < length s → TableRefusal s 17 0
+  bad-line : (front rest : List ℕ) (place : ℕ) → length s ≤ maxText → s ≡ front ++ rest → TableStops front rest → place ≡ 1 + newlines front
+      → TableRefusal s 16 place
+  bad-table : (w : ZoneWeights) (rs : List Rule) (h : ℕ) (x : Refusal) → TableTextIs s w rs h
+      → tableCheck (listOf rs) (weightList w) (reportHorizon h) maxRows maxRows ≡ Refused x
+      → OneOf (2 ∷ 3 ∷ 4 ∷ 8 ∷ 9 ∷ 10 ∷ []) (x .number) → TableRefusal s (x .number) (x .place)
+
+-- what the table program prints for the text s
+pub data TableProgram (s : List ℕ) (printed : List ℕ) : Type 0 where
+  -- one refusal line, and the reason holds of the text
+  refuses : (number place : ℕ) → printed ≡ refusedLine number place → TableRefusal s number place → TableProgram s printed
+  -- the lines of figures that hold of the weights, rules and horizon whose lines the text is
+  prints : (w : ZoneWeights) (rs : List Rule) (h : ℕ) (f : Figures) → TableTextIs s w rs h
+      → tableCheck (listOf rs) (weightList w) h maxRows maxRows ≡ Accepted
+      → printed ≡ figureLines h f → FiguresHold (weightList w) rs h f → TableProgram s printed
+
+-- ---- the monitor program
+
+-- quiet or signal
+abbrev pub Said : Answer → Type 0
+Said (refused n) = ⊥
+Said (quiet n) = Unit {0}
+Said (signal n mask) = Unit {0}
+
+-- The printed bytes are a line for each reading and the total, by what the plain chart says, reading by reading, from an empty row.
+pub record MonitorPrints (centre : ℤ) (sigma : ℕ) (rs : List Rule) (xs : List ℤ) (printed : List ℕ) : Type 0 where
+  pub lines : printed ≡ pointsBytes (freeAnswers rs [] (zonesOf centre sigma xs))
+  -- the same by the chart that can refuse: it refuses none of these readings
+  pub chart : chartAnswers rs [] (zonesOf centre sigma xs) ≡ freeAnswers rs [] (zonesOf centre sigma xs)
+  pub said : EachAnswer Said (freeAnswers rs [] (zonesOf centre sigma xs))
+
+pub data MonitorRefusal (s : List ℕ) : ℕ → ℕ → Type 0 where
+  too-long : maxText < length s → MonitorRefusal s 17 0
+  bad-line : (front rest : List ℕ) (place : ℕ) → length s ≤ maxText → s ≡ front ++ rest → MonitorStops front rest → place ≡ 1 + newlines front
+      → MonitorRefusal s 16 place
+  bad-rules : (centre : ℤ) (sigma : ℕ) (rs : List Rule) (xs : List ℤ) (x : Refusal) → MonitorTextIs s centre sigma rs xs
+      → checkOf (listOf rs) ≡ Refused x → OneOf (2 ∷ 3 ∷ 4 ∷ []) (x .number) → MonitorRefusal s (x .number) (x .place)
+  bad-sigma : (centre : ℤ) (sigma : ℕ) (rs : List Rule) (xs : List ℤ) → MonitorTextIs s centre sigma rs xs
+      → checkOf (listOf rs) ≡ Accepted → ((minSigma ≤ sigma) × (sigma ≤ maxSigma) → ⊥) → MonitorRefusal s 1 0
+
+pub data MonitorProgram (s : List ℕ) (printed : List ℕ) : Type 0 where
+  refuses : (number place : ℕ) → printed ≡ refusedLine number place → MonitorRefusal s number place → MonitorProgram s printed
+  prints : (centre : ℤ) (sigma : ℕ) (rs : List Rule) (xs : List ℤ) → MonitorTextIs s centre sigma rs xs
+      → checkOf (listOf rs) ≡ Accepted → (minSigma ≤ sigma) × (sigma ≤ maxSigma)
+      → MonitorPrints centre sigma rs xs printed → MonitorProgram s printed

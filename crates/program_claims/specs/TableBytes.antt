@@ -1,0 +1,231 @@
+-- CLAIMS: the table program's text. It is accepted exactly where it is the lines of weights, rules and a horizon, and it then gives these.
+use Prim.Native.Nat.{ℕ, _+_, _≤_, _<_}
+use mathlib.Core.Path.{_≡_, refl, sym, ap, _∙_}
+use mathlib.Core.Bool.{Bool, true, false, cond}
+use mathlib.Core.List.{List, [], _++_}
+use native.Mathlib.Omega.{arith}
+use native.Mathlib.Nat.{le-refl}
+use lib.Dec.{leb}
+use lib.ListN.{length, drop, length-append, length-drop}
+use borrow.Author.Tests.{leb-true, leb-false, le-leb, lt-leb}
+use Rattle.rules.specs.declared.Rule.{Rule}
+use Rattle.rules.specs.Bounds.{maxRules}
+use Rattle.rules.specs.Check.{activeRules}
+use Rattle.text.specs.declared.lines.ZoneWeights.{ZoneWeights}
+use Rattle.text.specs.declared.lines.Line.{Line}
+use Rattle.text.specs.declared.lines.Line.the-variants.{Weights, Rule as RuleLine, Horizon, Chart, Point, Other}
+use Rattle.text.specs.Format.{bytesOf, InRange, LineIs}
+use Rattle.text.specs.Spans.{Spans}
+use Rattle.text.specs.SpansLaws.{spans-then, spans-front, spans-back}
+use Rattle.text.specs.Line.{zoneWeights, lineAt}
+use Rattle.text.specs.LineLaws.{line-stands}
+use Rattle.text.specs.OnLine.{onWeights, onRule, onHorizon}
+use Rattle.parse.specs.declared.tables.TableText.{TableText}
+use Rattle.parse.specs.Limits.{maxText, badLine, tooLong}
+use Rattle.parse.specs.Rules.{rulesAt, afterRules, listOf}
+use Rattle.parse.specs.RulesLaws.{rules-end, active-rules}
+use Rattle.parse.specs.TableText.{refusedTable, readTable, tableEnd, tableText}
+use Rattle.program_claims.specs.Texts.{weightsLine, horizonLine, ruleLines, RulesInRange, TableTextIs, newlines, weights, rule, horizon, kindOf, kindNumber, Begins}
+use Rattle.program_claims.specs.Texts.{TableStops, no-weights, no-horizon, more, TableReading, too-long, stopped, read}
+use Rattle.program_claims.specs.NewlineLaws.{newlines-append, newlines-line, newlines-rules}
+use Rattle.program_claims.specs.LinesLaws.{drop-behind, spans-of, nothing-behind, spans-whole, whole-spans, line-found, begins-read, read-begins, kind-begins, rules-spans, rules-read}
+
+-- ---- every text is one of the three kinds
+
+module _ (s : List ℕ) (short : length s ≤ maxText) where
+  module _ (w : ZoneWeights) (rs : List Rule) (at : ℕ) (wr : InRange (weightsLine w)) (rr : RulesInRange rs)
+      (u : Spans s 0 (bytesOf (weightsLine w) ++ ruleLines rs) at) where
+    lines-before : newlines (bytesOf (weightsLine w) ++ ruleLines rs) ≡ 1 + length rs
+    lines-before = omega (arith, newlines-append (bytesOf (weightsLine w)) (ruleLines rs), newlines-line (weightsLine w) tt, newlines-rules rs)
+
+    -- another line where the horizon should be
+    stop : (x : Line) → lineAt s at ≡ x → (kindOf x ≡ rule → ⊥) → (kindOf x ≡ horizon → ⊥) → TableReading s (refusedTable (badLine (2 + length rs)))
+    stop x e r h =
+        stopped (bytesOf (weightsLine w) ++ ruleLines rs) (drop at s) (2 + length rs) short (u .text)
+        (no-horizon w rs wr rr (λ b. r (ap kindOf (sym e) ∙ begins-read s at b)) (λ b. h (ap kindOf (sym e) ∙ begins-read s at b)))
+        (omega (arith, lines-before))
+
+    -- a horizon, and the end of the text or more
+    at-horizon : (h end : ℕ) → LineIs s at (Horizon h end)
+        → TableReading s (cond (leb (length s) end) (readTable w rs h) (refusedTable (badLine (2 + length rs + 1))))
+    at-horizon h end i = go (leb (length s) end) refl
+      where
+        v : Spans s 0 (bytesOf (weightsLine w) ++ ruleLines rs ++ bytesOf (horizonLine h)) end
+        v = spans-then u (i .spans)
+
+        lines-all : newlines (bytesOf (weightsLine w) ++ ruleLines rs ++ bytesOf (horizonLine h)) ≡ 2 + length rs
+        lines-all = omega (arith, lines-before, newlines-append (bytesOf (weightsLine w) ++ ruleLines rs) (bytesOf (horizonLine h)), newlines-line (horizonLine h) tt)
+
+        go : (b : Bool) → leb (length s) end ≡ b → TableReading s (cond b (readTable w rs h) (refusedTable (badLine (2 + length rs + 1))))
+        go true e =
+            read w rs h (record { bytes = whole-spans v (leb-true _ _ e); short = short; weights-range = wr; rules-range = rr; horizon-range = i .range })
+        go false e =
+            stopped (bytesOf (weightsLine w) ++ ruleLines rs ++ bytesOf (horizonLine h)) (drop end s) (2 + length rs + 1) short (v .text)
+            (more {rest = drop end s} w rs h wr rr (i .range) (λ q. omega (arith, ap length q, length-drop end s, leb-false (length s) end e)))
+            (omega (arith, lines-all))
+
+    behind-rules : onRule (lineAt s at) (λ k m zones next. true) false ≡ false → (x : Line) → lineAt s at ≡ x
+        → TableReading s (onHorizon x (λ h end. cond (leb (length s) end) (readTable w rs h) (refusedTable (badLine (2 + length rs + 1)))) (refusedTable (badLine (2 + length rs))))
+    behind-rules n (Horizon h end) e = at-horizon h end (line-stands s at (Horizon h end) e tt)
+    behind-rules n (RuleLine k m zones next) e = let z = rw e at n in absurd (let y : _≡_ {A = ℕ} 0 1 = cc in omega arith)
+    behind-rules n (Weights x next) e = stop (Weights x next) e (λ q. omega (arith, ap kindNumber q)) (λ q. omega (arith, ap kindNumber q))
+    behind-rules n (Chart c d next) e = stop (Chart c d next) e (λ q. omega (arith, ap kindNumber q)) (λ q. omega (arith, ap kindNumber q))
+    behind-rules n (Point x next) e = stop (Point x next) e (λ q. omega (arith, ap kindNumber q)) (λ q. omega (arith, ap kindNumber q))
+    behind-rules n Other e = stop Other e (λ q. omega (arith, ap kindNumber q)) (λ q. omega (arith, ap kindNumber q))
+
+  -- another line where the weights should be
+  no-first : (x : Line) → lineAt s 0 ≡ x → (kindNumber (kindOf x) ≡ 0 → ⊥) → TableReading s (refusedTable (badLine 1))
+  unfolding newlines
+  no-first x e n = stopped [] s 1 short refl (no-weights (λ b. n (ap (λ (l : Line). kindNumber (kindOf l)) (sym e) ∙ ap kindNumber (begins-read s 0 b)))) refl
+
+  first-line : (x : Line) → lineAt s 0 ≡ x
+      → TableReading s (onWeights x (λ w at. tableEnd s w (rulesAt (length s) s at) (afterRules (length s) s at)) (refusedTable (badLine 1)))
+  unfolding tableEnd
+  first-line (Weights w at) e =
+      let i = line-stands s 0 (Weights w at) e tt in
+      let r = rules-spans (length s) s at in
+      behind-rules w (rulesAt (length s) s at) (afterRules (length s) s at) (i .range) (r .1) (spans-then (i .spans) (r .0))
+      (rules-end (length s) s at (λ k m zones next. true) false (omega arith)) (lineAt s (afterRules (length s) s at)) refl
+  first-line (RuleLine k m zones next) e = no-first (RuleLine k m zones next) e (λ q. omega arith)
+  first-line (Horizon h next) e = no-first (Horizon h next) e (λ q. omega arith)
+  first-line (Chart c d next) e = no-first (Chart c d next) e (λ q. omega arith)
+  first-line (Point x next) e = no-first (Point x next) e (λ q. omega arith)
+  first-line Other e = no-first Other e (λ q. omega arith)
+
+-- Every text is refused by 17; or by 16, at the place that counts the LFs before the first line that cannot come next; or it is read.
+pub table-reading : (s : List ℕ) → TableReading s (tableText s)
+unfolding tableText
+table-reading s = go (leb (length s) maxText) refl
+  where
+    go : (b : Bool) → leb (length s) maxText ≡ b
+        → TableReading s (cond b (onWeights (lineAt s 0) (λ w at. tableEnd s w (rulesAt (length s) s at) (afterRules (length s) s at)) (refusedTable (badLine 1))) (refusedTable tooLong))
+    go true e = first-line s (leb-true _ _ e) (lineAt s 0) refl
+    go false e = too-long (leb-false _ _ e)
+
+-- ---- the lines of weights, rules and a horizon are read back
+
+record Found (s : List ℕ) (w : ZoneWeights) (rs : List Rule) (h : ℕ) : Type 0 where
+  next : ℕ
+  at : ℕ
+  first : lineAt s 0 ≡ Weights w next
+  rules : rulesAt (length s) s next ≡ rs
+  after : afterRules (length s) s next ≡ at
+  last : lineAt s at ≡ Horizon h (length s)
+
+found : {s : List ℕ} {w : ZoneWeights} {rs : List Rule} {h : ℕ} → TableTextIs s w rs h → Found s w rs h
+found {s} {w} {rs} {h} t =
+    let whole = spans-whole (t .bytes) in
+    let front = spans-front (bytesOf (weightsLine w) ++ ruleLines rs) (bytesOf (horizonLine h)) whole in
+    let last = line-found s _ (horizonLine h) _ (t .horizon-range) (spans-back (bytesOf (weightsLine w) ++ ruleLines rs) (bytesOf (horizonLine h)) whole) in
+    let r = rules-read (length s) rs (omega arith) (t .rules-range) (spans-back (bytesOf (weightsLine w)) (ruleLines rs) front)
+    (λ q. omega (arith, ap kindNumber (ap kindOf (sym last) ∙ q))) in
+    record {
+      next = _;
+      at = _;
+      first = line-found s 0 (weightsLine w) _ (t .weights-range) (spans-front (bytesOf (weightsLine w)) (ruleLines rs) front);
+      rules = r .0;
+      after = r .1;
+      last = last;
+    }
+
+pub table-read : {s : List ℕ} {w : ZoneWeights} {rs : List Rule} {h : ℕ} → TableTextIs s w rs h → tableText s ≡ readTable w rs h
+unfolding tableText tableEnd
+table-read {s} {w} {rs} {h} t =
+    let f = found t in
+    rw (le-leb (length s) maxText (t .short), f .first, f .rules, f .after, f .last, le-leb (length s) (length s) (le-refl (length s)))
+
+-- A text is the lines of at most one list of weights, one list of rules and one horizon.
+pub table-text-once : {s : List ℕ} {w w′ : ZoneWeights} {rs rs′ : List Rule} {h h′ : ℕ} → TableTextIs s w rs h → TableTextIs s w′ rs′ h′
+    → (w ≡ w′) × (rs ≡ rs′) × (h ≡ h′)
+table-text-once t t′ =
+    let f = found t in
+    let g = found t′ in
+    (cc (f .first, g .first), cc (f .first, g .first, f .rules, g .rules), cc (f .first, g .first, f .after, g .after, f .last, g .last))
+
+-- A text is accepted, by the number 0, exactly where it is the lines of weights, rules and a horizon: then it gives these.
+pub table-accepted : (s : List ℕ) → tableText s .refusal .number ≡ 0
+    → (w : ZoneWeights) × (rs : List Rule) × (h : ℕ) × TableTextIs s w rs h
+unfolding refusedTable
+table-accepted s z = go (tableText s) (table-reading s) z
+  where
+    go : (t : TableText) → TableReading s t → t .refusal .number ≡ 0 → (w : ZoneWeights) × (rs : List Rule) × (h : ℕ) × TableTextIs s w rs h
+    go t (too-long l) z = absurd (omega arith)
+    go t (stopped front rest place l e st p) z = absurd (omega arith)
+    go t (read w rs h i) z = (w, rs, h, i)
+
+-- The same by the equation with what is read, for the rules that a list has slots for.
+pub table-exactly : {s : List ℕ} {w : ZoneWeights} {rs : List Rule} {h : ℕ} → length rs ≤ maxRules → tableText s ≡ readTable w rs h → TableTextIs s w rs h
+unfolding readTable listOf
+table-exactly {s} {w} {rs} {h} few e =
+    let a = table-accepted s (ap (λ (t : TableText). t .refusal .number) e) in
+    let same : readTable (a .0) (a .1) (a .2) ≡ readTable w rs h = sym (table-read (a .3)) ∙ e in
+    let ws : a .0 ≡ w = ap (λ (t : TableText). zoneWeights (t .weights)) same in
+    let count : length (a .1) ≡ length rs = ap (λ (t : TableText). t .list .len) same in
+    let list : activeRules (listOf (a .1)) ≡ activeRules (listOf rs) = ap (λ (t : TableText). activeRules (t .list)) same in
+    let rules : a .1 ≡ rs = sym (active-rules (a .1) (omega arith)) ∙ list ∙ active-rules rs few in
+    let hs : a .2 ≡ h = ap (λ (t : TableText). t .horizon) same in
+    put ws rules hs (a .3)
+  where
+    put : {v v′ : ZoneWeights} {l l′ : List Rule} {n n′ : ℕ} → v ≡ v′ → l ≡ l′ → n ≡ n′ → TableTextIs s v l n → TableTextIs s v′ l′ n′
+    put p q r t = rw (← p, ← q, ← r) t
+
+-- ---- and a text that goes wrong is refused by 16, there
+
+module _ (s : List ℕ) where
+  other-weights : {A : Type 0} (f : ZoneWeights → ℕ → A) (other : A) → (Begins weights s → ⊥) → onWeights (lineAt s 0) f other ≡ other
+  other-weights f other nw = go (lineAt s 0) refl
+    where
+      go : (x : Line) → lineAt s 0 ≡ x → onWeights x f other ≡ other
+      go (Weights w next) e = absurd (nw (read-begins s 0 (Weights w next) e tt))
+      go (RuleLine k m zones next) e = refl
+      go (Horizon h next) e = refl
+      go (Chart c d next) e = refl
+      go (Point x next) e = refl
+      go Other e = refl
+
+  other-horizon : {A : Type 0} (at : ℕ) (f : ℕ → ℕ → A) (other : A) → (Begins horizon (drop at s) → ⊥) → onHorizon (lineAt s at) f other ≡ other
+  other-horizon at f other nh = go (lineAt s at) refl
+    where
+      go : (x : Line) → lineAt s at ≡ x → onHorizon x f other ≡ other
+      go (Weights w next) e = refl
+      go (RuleLine k m zones next) e = refl
+      go (Horizon h next) e = absurd (nh (read-begins s at (Horizon h next) e tt))
+      go (Chart c d next) e = refl
+      go (Point x next) e = refl
+      go Other e = refl
+
+-- A text that is right up to the end of `front`, where the next line cannot come next, is refused by 16 with the place behind the LFs of `front`.
+pub table-stopped : {s front rest : List ℕ} → length s ≤ maxText → s ≡ front ++ rest → TableStops front rest → tableText s ≡ refusedTable (badLine (1 + newlines front))
+unfolding tableText tableEnd newlines
+table-stopped {s} l e (no-weights nw) =
+    let nw′ : Begins weights s → ⊥ = rw e nw in
+    rw (le-leb (length s) maxText l) (other-weights s _ _ nw′)
+table-stopped {s} l e (no-horizon {rest} w rs wr rr nr nh) =
+    let W = bytesOf (weightsLine w) in
+    let R = ruleLines rs in
+    let at = 0 + length (W ++ R) in
+    let d : drop at s ≡ rest = drop-behind s 0 (W ++ R) rest e in
+    let u = spans-of s 0 (W ++ R) rest e in
+    let first = line-found s 0 (weightsLine w) _ wr (spans-front W R u) in
+    let nr′ : Begins rule (drop at s) → ⊥ = rw d nr in
+    let nh′ : Begins horizon (drop at s) → ⊥ = rw d nh in
+    let r = rules-read (length s) rs (omega arith) rr (spans-back W R u) (λ q. nr′ (kind-begins s at (λ z. omega (arith, ap kindNumber z)) q)) in
+    let place : 2 + length rs ≡ 1 + newlines (W ++ R) = omega (arith, newlines-append W R, newlines-line (weightsLine w) tt, newlines-rules rs) in
+    rw (le-leb (length s) maxText l, first, r .0, r .1, ← place) (other-horizon s at _ _ nh′)
+table-stopped {s} l e (more {rest} w rs h wr rr hr n) =
+    let W = bytesOf (weightsLine w) in
+    let R = ruleLines rs in
+    let H = bytesOf (horizonLine h) in
+    let u = spans-of s 0 (W ++ R ++ H) rest e in
+    let front = spans-front (W ++ R) H u in
+    let first = line-found s 0 (weightsLine w) _ wr (spans-front W R front) in
+    let last = line-found s _ (horizonLine h) _ hr (spans-back (W ++ R) H u) in
+    let r = rules-read (length s) rs (omega arith) rr (spans-back W R front) (λ q. omega (arith, ap kindNumber (ap kindOf (sym last) ∙ q))) in
+    let long : 0 + length (W ++ R ++ H) < length s = omega (arith, ap length e, length-append (W ++ R ++ H) rest, nothing-behind rest n) in
+    let place : 2 + length rs + 1 ≡ 1 + newlines (W ++ R ++ H) =
+    omega (arith, newlines-append (W ++ R) H, newlines-append W R, newlines-line (weightsLine w) tt, newlines-rules rs, newlines-line (horizonLine h) tt) in
+    rw (le-leb (length s) maxText l, first, r .0, r .1, last, lt-leb (length s) (0 + length (W ++ R ++ H)) long, ← place)
+
+pub table-too-long : (s : List ℕ) → maxText < length s → tableText s ≡ refusedTable tooLong
+unfolding tableText
+table-too-long s l = rw (lt-leb (length s) maxText l)

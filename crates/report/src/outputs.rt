@@ -1,0 +1,30 @@
+// All that a program writes to standard output for a text, in the lent buffer: the lines, or the one line of a refusal.
+use crate::ReportAnswer;
+use crate::monitor_report;
+use crate::table_report;
+use print::put_refused;
+ghost use Rattle.report.specs.Printed.{printedBytes, OutputIs};
+ghost use Rattle.report.specs.TableReport.{tablePrinted};
+ghost use Rattle.report.specs.MonitorReport.{monitorPrinted};
+
+// The table program's output, from the buffer's start; what is behind it is kept.
+pub fn table_output(text: &[u8], out: &mut [u8; ReportAnswer::TABLE_SIZE]) -> usize
+    ensures { λ n. ⌜ OutputIs (now (out .entry)) (now (out .exit)) n (printedBytes (tablePrinted (now (text .entry)))) ⌝ }
+{
+    let answer = table_report(text, out);
+    match answer {
+        ReportAnswer::Written(n) => n,
+        ReportAnswer::Refused(r) => put_refused(out, 0, r),
+    }
+}
+
+// The monitor program's output, from the buffer's start; what is behind it is kept.
+pub fn monitor_output(text: &[u8], out: &mut [u8; ReportAnswer::MONITOR_SIZE]) -> usize
+    ensures { λ n. ⌜ OutputIs (now (out .entry)) (now (out .exit)) n (printedBytes (monitorPrinted (now (text .entry)))) ⌝ }
+{
+    let answer = monitor_report(text, out);
+    match answer {
+        ReportAnswer::Written(n) => n,
+        ReportAnswer::Refused(r) => put_refused(out, 0, r),
+    }
+}
