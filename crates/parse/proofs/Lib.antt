@@ -1,4 +1,5 @@
 mod RuleTurns
 mod PointTurns
+mod PartCases
 mod TableCases
 mod MonitorCases

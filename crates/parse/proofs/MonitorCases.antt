@@ -3,6 +3,7 @@ use Prim.Native.Nat.{ℕ, _+_, _*_, _≤_, _<_}
 use mathlib.Core.Path.{_≡_}
 use mathlib.Core.List.{List, [], _∷_}
 use native.Mathlib.Omega.{arith}
+use native.Mathlib.Nat.{add-zero}
 use lib.ListN.{length}
 use lib.IntN.{ℤ}
 use borrow.Author.Tests.{le-leb, lt-leb}
@@ -14,10 +15,11 @@ use Rattle.parse.specs.declared.rule_lines.RulesRead.{RulesRead}
 use Rattle.parse.specs.declared.point_lines.PointsRead.{PointsRead}
 use Rattle.parse.specs.declared.monitors.MonitorText.{MonitorText}
 use Rattle.parse.specs.Limits.{maxText, notRefused, badLine, tooLong}
-use Rattle.parse.specs.Rules.{afterRules, rulesRead}
+use Rattle.parse.specs.Rules.{rulesAt, afterRules, rulesRead}
 use Rattle.parse.specs.RulesLaws.{rules-fit}
 use Rattle.parse.specs.Readings.{afterPoints, pointsRead}
 use Rattle.parse.specs.ReadingsLaws.{points-fit}
+use Rattle.parse.proofs.PartCases.{bad-rule, no-points}
 use Rattle.parse.specs.MonitorText.{refusedMonitor, readMonitor, monitorEnd, monitorText}
 
 pub too-long : (s : List ℕ) → maxText < length s → refusedMonitor tooLong ≡ monitorText s
@@ -28,9 +30,18 @@ pub no-chart : (s : List ℕ) → length s ≤ maxText → (x : Line) → x ≡ 
 unfolding monitorText
 no-chart s h x e t = rw (le-leb (length s) maxText h, ← e, not-chart x _ _ t)
 
+pub refused-rule : (s : List ℕ) → length s ≤ maxText → {c : ℤ} {d at : ℕ} → lineAt s 0 ≡ Chart c d at
+    → (r : RulesRead) → r ≡ rulesRead s at → (r .refusal .number ≡ 0 → ⊥) → refusedMonitor (r .refusal) ≡ monitorText s
+unfolding rulesRead monitorEnd monitorText
+refused-rule s short {c} {d} {at} first r read n =
+    let b = bad-rule s at r read n in
+    let line : r .line ≡ 2 + length (rulesAt (length s) s at) = rw read in
+    let none = no-points (length s) s _ (b .line) in
+    rw (b .refusal, line, le-leb (length s) maxText short, first, none .0, none .1, lt-leb (length s) (afterRules (length s) s at) (b .within), add-zero)
+
 -- behind the chart, the rules and the points
 module _ (s : List ℕ) (short : length s ≤ maxText) {c : ℤ} {d at : ℕ} (first : lineAt s 0 ≡ Chart c d at)
-    (r : RulesRead) (read : r ≡ rulesRead s at 2) (p : PointsRead) (found : p ≡ pointsRead s (r .next)) where
+    (r : RulesRead) (read : r ≡ rulesRead s at) (p : PointsRead) (found : p ≡ pointsRead s (r .next)) where
   -- the number of the first line behind the points fits
   pub line-fits : 8 * (r .line + p .count) ≤ 2 * maxText + 16
   unfolding rulesRead pointsRead

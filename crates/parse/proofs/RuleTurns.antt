@@ -1,6 +1,7 @@
 -- The turns of the loop over the rule lines: what is read so far, and what is left with fuel enough, are the whole.
 use Prim.Native.Nat.{ℕ, zero, suc, _+_, _*_, _≤_}
 use mathlib.Core.Path.{_≡_, refl, sym, ap, _∙_}
+use mathlib.Core.Bool.{true, false}
 use mathlib.Core.List.{List, [], _∷_, _++_, append-nil}
 use native.Mathlib.Omega.{arith}
 use lib.ListN.{length, length-append}
@@ -10,10 +11,12 @@ use Rattle.rules.specs.declared.RuleList.{RuleList}
 use Rattle.rules.specs.Ready.{ruleOf}
 use Rattle.text.specs.declared.lines.Line.{Line}
 use Rattle.text.specs.declared.lines.Line.the-variants.{Rule as RuleLine}
-use Rattle.text.specs.Line.{lineAt}
-use Rattle.text.specs.LineLaws.{line-stands, line-ahead}
+use Rattle.text.specs.Line.{lineAt, beginsRule}
+use Rattle.text.specs.OnLine.{onRule}
+use Rattle.text.specs.LineLaws.{line-stands, line-ahead, no-rule}
 use Rattle.text.proofs.Else.{TagIn, not-rule}
 use Rattle.parse.specs.declared.rule_lines.RulesRead.{RulesRead}
+use Rattle.parse.specs.Limits.{notRefused, badLine}
 use Rattle.parse.specs.Rules.{rulesAt, afterRules, listOf, pushed, rulesRead}
 use Rattle.parse.specs.RulesLaws.{pushed-list}
 
@@ -77,16 +80,34 @@ rules-more {s} {at} {l} {i} k m zones next e u = go (u .fuel) (u .enough) (u .re
       fit = omega (arith, a, n, u .few);
     }
 
--- the line at i is no rule line
-pub rules-done : {s : List ℕ} {at : ℕ} {l : RuleList} {i : ℕ} (x : Line) → x ≡ lineAt s i → TagIn (0 ∷ 2 ∷ 3 ∷ 4 ∷ 5 ∷ []) x
-    → RulesUpTo s at l i → (line : ℕ) → _≡_ {A = RulesRead} (record { list = l; next = i; line = line + l .len }) (rulesRead s at line)
-unfolding rulesAt afterRules rulesRead listOf
-rules-done {s} {at} {l} {i} x e t u line = go (u .fuel) (u .rest) (u .end)
+-- the line at i is no rule line: all is read
+rules-all : {s : List ℕ} {at : ℕ} {l : RuleList} {i : ℕ} → RulesUpTo s at l i → ((A : Type 0) (f : ℕ → ℕ → ℕ → ℕ → A) (other : A) → onRule (lineAt s i) f other ≡ other)
+    → (l ≡ listOf (rulesAt (length s) s at)) × (l .len ≡ length (rulesAt (length s) s at)) × (i ≡ afterRules (length s) s at)
+unfolding rulesAt afterRules listOf
+rules-all {s} {at} {l} {i} u none = go (u .fuel) (u .rest) (u .end)
   where
     go : (f : ℕ) → u .rules ++ rulesAt f s i ≡ rulesAt (length s) s at → afterRules f s i ≡ afterRules (length s) s at
-        → _≡_ {A = RulesRead} (record { list = l; next = i; line = line + l .len }) (rulesRead s at line)
-    go zero p q = rw (← p, ← q, append-nil, u .held)
+        → (l ≡ listOf (rulesAt (length s) s at)) × (l .len ≡ length (rulesAt (length s) s at)) × (i ≡ afterRules (length s) s at)
+    go zero p q =
+        let a : u .rules ≡ rulesAt (length s) s at = sym (append-nil (u .rules)) ∙ p in
+        (rw (← a) (u .held), rw (← a, u .held), q)
     go (suc f) p q =
-        let a : u .rules ≡ rulesAt (length s) s at = sym (append-nil (u .rules)) ∙ (rw (← e, not-rule x _ _ t) at p) in
-        let b : i ≡ afterRules (length s) s at = rw (← e, not-rule x _ _ t) at q in
-        rw (← a, ← b, u .held)
+        let a : u .rules ≡ rulesAt (length s) s at = sym (append-nil (u .rules)) ∙ (rw (none _ _ _) at p) in
+        (rw (← a) (u .held), rw (← a, u .held), rw (none _ _ _) at q)
+
+-- it does not begin as one
+pub rules-done : {s : List ℕ} {at : ℕ} {l : RuleList} {i : ℕ} → RulesUpTo s at l i → beginsRule s i ≡ false
+    → _≡_ {A = RulesRead} (record { refusal = notRefused; list = l; next = i; line = 2 + l .len }) (rulesRead s at)
+unfolding rulesRead
+rules-done {s} {at} {l} {i} u b =
+    let h = rules-all u (λ A f other. no-rule s i f other b) in
+    rw (← h .2, b, ← h .0, ← h .1)
+
+-- it begins as one
+pub rules-refused : {s : List ℕ} {at : ℕ} {l : RuleList} {i : ℕ} (x : Line) → x ≡ lineAt s i → TagIn (0 ∷ 2 ∷ 3 ∷ 4 ∷ 5 ∷ []) x
+    → RulesUpTo s at l i → beginsRule s i ≡ true
+    → _≡_ {A = RulesRead} (record { refusal = badLine (2 + l .len); list = l; next = i; line = 2 + l .len }) (rulesRead s at)
+unfolding rulesRead
+rules-refused {s} {at} {l} {i} x e t u b =
+    let h = rules-all u (λ A f other. rw (← e) (not-rule x f other t)) in
+    rw (← h .2, b, ← h .0, ← h .1)

@@ -15,8 +15,9 @@ use Rattle.text.proofs.Else.{TagIn, not-weights, not-horizon}
 use Rattle.parse.specs.declared.rule_lines.RulesRead.{RulesRead}
 use Rattle.parse.specs.declared.tables.TableText.{TableText}
 use Rattle.parse.specs.Limits.{maxText, notRefused, badLine, tooLong}
-use Rattle.parse.specs.Rules.{rulesRead}
+use Rattle.parse.specs.Rules.{rulesAt, rulesRead}
 use Rattle.parse.specs.RulesLaws.{rules-fit}
+use Rattle.parse.proofs.PartCases.{bad-rule}
 use Rattle.parse.specs.TableText.{refusedTable, readTable, tableEnd, tableText}
 
 pub too-long : (s : List ℕ) → maxText < length s → refusedTable tooLong ≡ tableText s
@@ -28,11 +29,18 @@ unfolding tableText
 no-weights s h x e t = rw (le-leb (length s) maxText h, ← e, not-weights x _ _ t)
 
 -- behind the weights and the rules
-module _ (s : List ℕ) (short : length s ≤ maxText) {w : ZoneWeights} {at : ℕ} (first : lineAt s 0 ≡ Weights w at) (r : RulesRead) (read : r ≡ rulesRead s at 2) where
+module _ (s : List ℕ) (short : length s ≤ maxText) {w : ZoneWeights} {at : ℕ} (first : lineAt s 0 ≡ Weights w at) (r : RulesRead) (read : r ≡ rulesRead s at) where
   -- the number of the line behind the next still fits
   pub line-fits : 8 * r .line ≤ maxText + 16
   unfolding rulesRead
   line-fits = rw read (omega (arith, rules-fit (length s) s at))
+
+  pub refused-rule : (r .refusal .number ≡ 0 → ⊥) → refusedTable (r .refusal) ≡ tableText s
+  unfolding rulesRead tableEnd tableText
+  refused-rule n =
+      let b = bad-rule s at r read n in
+      let line : r .line ≡ 2 + length (rulesAt (length s) s at) = rw read in
+      rw (b .refusal, line, le-leb (length s) maxText short, first, b .line)
 
   pub no-horizon : (x : Line) → x ≡ lineAt s (r .next) → TagIn (0 ∷ 1 ∷ 3 ∷ 4 ∷ 5 ∷ []) x → refusedTable (badLine (r .line)) ≡ tableText s
   unfolding rulesRead tableEnd tableText

@@ -4,6 +4,7 @@ pub mod RulesLaws
 pub mod TableText
 pub mod Readings
 pub mod ReadingsLaws
+pub mod Parts
 pub mod MonitorText
 pub mod MonitorTextLaws
 pub mod Examples

@@ -9,8 +9,9 @@ use Rattle.rules.specs.declared.RuleList.{RuleList}
 use Rattle.rules.specs.Bounds.{maxRules}
 use Rattle.rules.specs.Check.{noRule}
 use Rattle.rules.specs.Ready.{ruleOf}
-use Rattle.text.specs.Line.{lineAt}
+use Rattle.text.specs.Line.{lineAt, beginsRule}
 use Rattle.text.specs.OnLine.{onRule}
+use Rattle.parse.specs.Limits.{notRefused, badLine}
 use Rattle.parse.specs.declared.rule_lines.RulesRead.{RulesRead}
 
 -- the rules, from the line at `at` on; the fuel is a bound on the number of lines, and the text's length is enough
@@ -37,10 +38,11 @@ listOf rs = record { rules = slotsOf maxRules rs; len = length rs }
 unfoldable pub pushed : RuleList → Rule → RuleList
 pushed l r = record { rules = cond (leb maxRules (l .len)) (l .rules) (set (l .rules) (l .len) r); len = l .len + 1 }
 
--- all the rule lines from `at` on, the first of them being the line numbered `line`
-unfoldable pub rulesRead : List ℕ → ℕ → ℕ → RulesRead
-rulesRead s at line = record {
+-- all the rule lines from `at` on, the first of them being line 2. The line behind them that begins as a rule line is refused
+unfoldable pub rulesRead : List ℕ → ℕ → RulesRead
+rulesRead s at = record {
+  refusal = cond (beginsRule s (afterRules (length s) s at)) (badLine (2 + length (rulesAt (length s) s at))) notRefused;
   list = listOf (rulesAt (length s) s at);
   next = afterRules (length s) s at;
-  line = line + length (rulesAt (length s) s at);
+  line = 2 + length (rulesAt (length s) s at);
 }

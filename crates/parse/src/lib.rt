@@ -1,5 +1,6 @@
 // Whole texts: what each program's text gives, or the refusal.
 mod monitors;
+mod parts;
 mod point_lines;
 mod rule_lines;
 mod tables;

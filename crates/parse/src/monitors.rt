@@ -1,14 +1,12 @@
 // The monitor program's text: a chart line, rule lines, and point lines to the end.
-use crate::point_lines::read_points;
+use crate::parts::read_parts;
 use crate::rule_lines::BAD_LINE;
 use crate::rule_lines::MAX_TEXT;
 use crate::rule_lines::TOO_LONG;
 use crate::rule_lines::no_rules;
-use crate::rule_lines::read_rules;
 use rules::Refusal;
 use rules::RuleList;
 use text::Line;
-use text::read_line;
 ghost use mathlib.Core.Path.{_≡_};
 ghost use Rattle.rules.specs.Refusal.{refusal};
 ghost use Rattle.parse.specs.MonitorText.{refusedMonitor, monitorText};
@@ -44,19 +42,20 @@ pub fn monitor_text(text: &[u8]) -> MonitorText
     if text.len() > MAX_TEXT {
         return refused_monitor(TOO_LONG, 0);
     }
-    let Line::Chart {
-        centre,
-        sigma,
-        next,
-    } = read_line(text, 0)
-    else {
+    let parts = read_parts(text);
+    let first = parts.first;
+    let Line::Chart { centre, sigma, .. } = first else {
         return refused_monitor(BAD_LINE, 1);
     };
-    let read = read_rules(text, next, 2);
+    let read = parts.rules;
+    let refusal = read.refusal;
+    if refusal.number != 0 {
+        return refused_monitor(refusal.number, refusal.place);
+    }
     let list = read.list;
     let points = read.next;
     let line = read.line;
-    let found = read_points(text, points);
+    let found = parts.points;
     let count = found.count;
     let end = found.next;
     if end < text.len() {

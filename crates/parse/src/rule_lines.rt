@@ -1,10 +1,13 @@
 // The rule lines of a text, from an offset on, and the limits of a text.
+use rules::Refusal;
 use rules::Rule;
 use rules::RuleList;
 use text::Line;
-use text::read_line;
+use text::Reader;
+use text::begins_rule;
+use text::line_at;
 ghost use mathlib.Core.Path.{_≡_};
-ghost use Prim.Native.Nat.{_+_, _≤_};
+ghost use Prim.Native.Nat.{_≤_};
 ghost use mathlib.Core.List.{[]};
 ghost use lib.ListN.{length};
 ghost use Rattle.parse.specs.Limits.{maxText};
@@ -19,8 +22,13 @@ pub(crate) const TOO_LONG: u32 = 17;
 // Document 01's number of a line that is not the one expected, or cannot be read.
 pub(crate) const BAD_LINE: u32 = 16;
 
-// The rules, and the offset and the number of the first line that is no rule line.
+// The number of the first line behind the first line.
+const SECOND: u32 = 2;
+
+// The rules, and the offset and the number of the first line that is no rule line; with the refusal of that line where it begins as a
+// rule line and does not give three numbers, else with the number 0.
 pub(crate) struct RulesRead {
+    pub(crate) refusal: Refusal,
     pub(crate) list: RuleList,
     pub(crate) next: usize,
     pub(crate) line: u32,
@@ -60,22 +68,43 @@ fn push(list: RuleList, rule: Rule) -> RuleList
     }
 }
 
-// The rule lines from `at` on, the first of them being the line numbered `line`.
-pub(crate) fn read_rules(text: &[u8], at: usize, line: u32) -> RulesRead
-    requires { ⌜ length (now text) ≤ maxText × line ≤ maxText ⌝ }
-    ensures { λ r. ⌜ r ≡ rulesRead (now (text .entry)) at line ⌝ }
+// The rule lines from `at` on, the first of them being line 2.
+fn read_rules(text: &[u8], at: usize) -> RulesRead
+    requires { ⌜ length (now text) ≤ maxText ⌝ }
+    ensures { λ r. ⌜ r ≡ rulesRead (now (text .entry)) at ⌝ }
 {
     let mut list = no_rules();
     let mut i = at;
-    loop {
-        let Line::Rule { k, m, zones, next } = read_line(text, i) else {
+    while begins_rule(text, i) {
+        let Line::Rule { k, m, zones, next } = line_at(text, i) else {
             return RulesRead {
+                refusal: Refusal {
+                    number: BAD_LINE,
+                    place: SECOND + list.len,
+                },
                 list,
                 next: i,
-                line: line + list.len,
+                line: SECOND + list.len,
             };
         };
         list = push(list, Rule::new(k, m, zones));
         i = next;
     }
+    RulesRead {
+        refusal: Refusal {
+            number: 0,
+            place: 0,
+        },
+        list,
+        next: i,
+        line: SECOND + list.len,
+    }
+}
+
+// The rule lines that the reader stands at.
+pub(crate) fn rules<'a>(r: Reader<'a>) -> RulesRead
+    requires { ⌜ length (now (r .text)) ≤ maxText ⌝ }
+    ensures { λ x. ⌜ x ≡ rulesRead (now (r .entry .text)) (r .entry .at) ⌝ }
+{
+    read_rules(r.text, r.at)
 }

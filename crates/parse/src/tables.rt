@@ -1,15 +1,14 @@
 // The table program's text: a weights line, rule lines, a horizon line, and nothing more.
+use crate::parts::read_parts;
 use crate::rule_lines::BAD_LINE;
 use crate::rule_lines::MAX_TEXT;
 use crate::rule_lines::TOO_LONG;
 use crate::rule_lines::no_rules;
-use crate::rule_lines::read_rules;
 use rules::Refusal;
 use rules::RuleList;
 use rules::ZONES;
 use text::Line;
 use text::ZoneWeights;
-use text::read_line;
 ghost use mathlib.Core.Path.{_≡_};
 ghost use Rattle.rules.specs.Refusal.{refusal};
 ghost use Rattle.text.specs.Format.{weightList};
@@ -48,14 +47,20 @@ pub fn table_text(text: &[u8]) -> TableText
     if text.len() > MAX_TEXT {
         return refused_table(TOO_LONG, 0);
     }
-    let Line::Weights { weights, next } = read_line(text, 0) else {
+    let parts = read_parts(text);
+    let first = parts.first;
+    let Line::Weights { weights, .. } = first else {
         return refused_table(BAD_LINE, 1);
     };
-    let read = read_rules(text, next, 2);
+    let read = parts.rules;
+    let refusal = read.refusal;
+    if refusal.number != 0 {
+        return refused_table(refusal.number, refusal.place);
+    }
     let list = read.list;
-    let at = read.next;
     let line = read.line;
-    let Line::Horizon { horizon, next } = read_line(text, at) else {
+    let last = parts.last;
+    let Line::Horizon { horizon, next } = last else {
         return refused_table(BAD_LINE, line);
     };
     if next < text.len() {

@@ -6,7 +6,7 @@ use print::put_signal;
 use print::put_total;
 use rules::RuleList;
 use text::Line;
-use text::read_line;
+use text::line_at;
 ghost use mathlib.Core.Path.{_≡_};
 ghost use mathlib.Core.Bool.{cond};
 ghost use Prim.Native.Nat.{_+_, _*_, _≤_};
@@ -70,7 +70,7 @@ pub(crate) fn put_points(
     let mut points: u32 = 0;
     let mut signals: u32 = 0;
     loop {
-        let Line::Point { reading, next } = read_line(text, i) else {
+        let Line::Point { reading, next } = line_at(text, i) else {
             return put_total(out, end, points, signals);
         };
         let zone = zone_at(reading, chart.centre, chart.sigma);

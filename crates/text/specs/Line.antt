@@ -1,5 +1,6 @@
 -- Reading a line at an offset of a text: a keyword, its fields, and LF. Definitions; LineLaws says which bytes each line is.
 use Prim.Native.Nat.{ℕ, zero, suc}
+use mathlib.Core.Bool.{Bool, true, false}
 use mathlib.Core.List.{List, [], _∷_, _++_}
 use lib.ListN.{getD}
 use Rattle.rules.specs.Bounds.{zoneCount}
@@ -60,3 +61,7 @@ lineAt s at =
     (onFound (wordAt chartWord s at) (chartFrom s)
     (onFound (wordAt pointWord s at) (pointFrom s)
     Other))))
+
+-- whether the line at an offset begins with `rule`
+abbrev pub beginsRule : List ℕ → ℕ → Bool
+beginsRule s at = onFound (wordAt ruleWord s at) (λ p. true) false

@@ -1,10 +1,11 @@
 -- The law of reading a line: what is read stands in the text, byte by byte, with the next line right behind it.
-use Prim.Native.Nat.{ℕ, zero, suc, _+_, _≤_}
-use mathlib.Core.Path.{_≡_, refl}
+use Prim.Native.Nat.{ℕ, zero, suc, _+_, _≤_, _<_}
+use mathlib.Core.Path.{_≡_, refl, sym, _∙_}
+use mathlib.Core.Bool.{true, false}
 use mathlib.Core.Logic.{_⊎_, inl, inr, ⊎-elim}
 use mathlib.Core.List.{List, [], _∷_, _++_}
 use native.Mathlib.Omega.{arith}
-use lib.ListN.{length, length-append}
+use lib.ListN.{length, getD, length-append}
 use lib.IntN.{ℤ}
 use Rattle.rules.specs.Bounds.{zoneCount}
 use Rattle.text.specs.declared.number.Number.{Number}
@@ -17,14 +18,15 @@ use Rattle.text.specs.declared.lines.Line.{Line}
 use Rattle.text.specs.declared.lines.Line.the-variants.{Weights, Rule, Horizon, Chart, Point, Other}
 use Rattle.text.specs.DecimalLaws.{decimal-some, signed-some}
 use Rattle.text.specs.Spans.{Spans}
-use Rattle.text.specs.SpansLaws.{spans-then, spans-within}
+use Rattle.text.specs.SpansLaws.{spans-then, spans-within, spans-front, spans-first}
 use Rattle.text.specs.Word.{newline, weightsWord, ruleWord, horizonWord, chartWord, pointWord, wordAt, onFound}
-use Rattle.text.specs.WordLaws.{word-spans}
+use Rattle.text.specs.WordLaws.{word-spans, word-read}
 use Rattle.text.specs.Number.{fieldAt, onNumber}
 use Rattle.text.specs.NumberLaws.{field-is}
 use Rattle.text.specs.Signed.{signedFieldAt, onSigned}
 use Rattle.text.specs.SignedLaws.{signed-field-is}
-use Rattle.text.specs.Line.{zoneWeights, fieldsFrom, weightsFrom, ruleFrom, horizonFrom, chartFrom, pointFrom, lineAt}
+use Rattle.text.specs.Line.{zoneWeights, fieldsFrom, weightsFrom, ruleFrom, horizonFrom, chartFrom, pointFrom, lineAt, beginsRule}
+use Rattle.text.specs.OnLine.{onRule}
 use Rattle.text.specs.Format.{field, signedField, fields, weightList, Unsigned, AllUnsigned, none, InSigned, InRange, bytesOf, nextOf, NotOther, LineIs}
 use Rattle.text.specs.FieldsLaws.{fields-snoc, unsigned-snoc, weight-list}
 
@@ -144,3 +146,50 @@ line-beyond s at h =
     (λ (e : lineAt s at ≡ Other). e)
     (λ (i : LineIs s at (lineAt s at)). let a = line-ahead (lineAt s at) i in absurd (omega (arith, a)))
     (line-is s at)
+
+-- ---- a line that begins with `rule` is a rule line or none
+
+rule-begins : (s : List ℕ) (at k m zones next : ℕ) → lineAt s at ≡ Rule k m zones next → beginsRule s at ≡ true
+rule-begins s at k m zones next e =
+    let l = line-stands s at (Rule k m zones next) e tt in
+    let u = spans-front ruleWord (field k ++ field m ++ field zones ++ newline) (l .spans) in
+    rw (word-read ruleWord u)
+
+-- where the word does not stand, the line is no rule line
+pub no-rule : {A : Type 0} (s : List ℕ) (at : ℕ) (f : ℕ → ℕ → ℕ → ℕ → A) (other : A) → beginsRule s at ≡ false → onRule (lineAt s at) f other ≡ other
+no-rule s at f other n = go (lineAt s at) refl
+  where
+    go : (x : Line) → lineAt s at ≡ x → onRule x f other ≡ other
+    go (Weights w next) e = refl
+    go (Rule k m zones next) e = let b = sym (rule-begins s at k m zones next e) ∙ n in let z : _≡_ {A = ℕ} 0 1 = cc in absurd (omega arith)
+    go (Horizon h next) e = refl
+    go (Chart c d next) e = refl
+    go (Point x next) e = refl
+    go Other e = refl
+
+-- where it stands, the line is a rule line or cannot be read
+pub rule-or-other : (s : List ℕ) (at : ℕ) → beginsRule s at ≡ true → ((k m zones next : ℕ) → lineAt s at ≡ Rule k m zones next → ⊥) → lineAt s at ≡ Other
+rule-or-other s at b n = at-word (wordAt ruleWord s at) refl b
+  where
+    at-word : (x : Found) → wordAt ruleWord s at ≡ x → onFound x (λ p. true) false ≡ true → lineAt s at ≡ Other
+    at-word (At p) q t = go (lineAt s at) refl
+      where
+        first : getD s at 0 ≡ 114
+        first = spans-first (word-spans ruleWord s at p q)
+
+        go : (x : Line) → lineAt s at ≡ x → x ≡ Other
+        go (Weights w next) e = let z : getD s at 0 ≡ 119 = spans-first (line-stands s at (Weights w next) e tt .spans) in absurd (omega (arith, first))
+        go (Rule k m zones next) e = absurd (n k m zones next e)
+        go (Horizon h next) e = let z : getD s at 0 ≡ 104 = spans-first (line-stands s at (Horizon h next) e tt .spans) in absurd (omega (arith, first))
+        go (Chart c d next) e = let z : getD s at 0 ≡ 99 = spans-first (line-stands s at (Chart c d next) e tt .spans) in absurd (omega (arith, first))
+        go (Point x next) e = let z : getD s at 0 ≡ 112 = spans-first (line-stands s at (Point x next) e tt .spans) in absurd (omega (arith, first))
+        go Other e = refl
+    at-word Absent q t = let z : _≡_ {A = ℕ} 0 1 = cc in absurd (omega arith)
+
+-- and it stands within the text
+pub rule-within : (s : List ℕ) (at : ℕ) → beginsRule s at ≡ true → at < length s
+rule-within s at b = go (wordAt ruleWord s at) refl b
+  where
+    go : (x : Found) → wordAt ruleWord s at ≡ x → onFound x (λ p. true) false ≡ true → at < length s
+    go (At p) q t = let u = word-spans ruleWord s at p q in let h = spans-within ruleWord (omega arith) u in omega (arith, h, u .end)
+    go Absent q t = let z : _≡_ {A = ℕ} 0 1 = cc in absurd (omega arith)

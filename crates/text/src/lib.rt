@@ -8,10 +8,12 @@ mod write;
 
 pub use lines::Line;
 pub use lines::ZoneWeights;
+pub use lines::begins_rule;
 pub use lines::line_at;
+pub use lines::next_of;
 pub use reader::Reader;
 pub use reader::line;
-pub use reader::read_line;
+pub use reader::moved;
 pub use write::put_byte;
 pub use write::put_bytes;
 pub use write::put_number;

@@ -7,7 +7,8 @@ use crate::word::Found;
 use crate::word::past;
 use rules::ZONES;
 ghost use mathlib.Core.Path.{_≡_};
-ghost use Rattle.text.specs.Line.{zoneWeights, weightsFrom, ruleFrom, horizonFrom, chartFrom, pointFrom, lineAt};
+ghost use Rattle.text.specs.Line.{zoneWeights, weightsFrom, ruleFrom, horizonFrom, chartFrom, pointFrom, lineAt, beginsRule};
+ghost use Rattle.text.specs.Format.{nextOf};
 
 // A weight for each zone, from zone 0 on. An enum can hold no array.
 pub struct ZoneWeights {
@@ -171,4 +172,28 @@ pub fn line_at(text: &[u8], at: usize) -> Line
         return point_from(text, p);
     }
     Line::Other
+}
+
+// Whether the line at `at` begins with the word `rule`.
+pub fn begins_rule(text: &[u8], at: usize) -> bool
+    ensures { λ t. ⌜ t ≡ beginsRule (now (text .entry)) at ⌝ }
+{
+    match past(text, at, b"rule") {
+        Found::At(_) => true,
+        Found::Absent => false,
+    }
+}
+
+// The offset of the line behind a line, and 0 where it is none.
+pub fn next_of(line: Line) -> usize
+    ensures { λ r. ⌜ r ≡ nextOf line ⌝ }
+{
+    match line {
+        Line::Weights { next, .. } => next,
+        Line::Rule { next, .. } => next,
+        Line::Horizon { next, .. } => next,
+        Line::Chart { next, .. } => next,
+        Line::Point { next, .. } => next,
+        Line::Other => 0,
+    }
 }

@@ -16,9 +16,9 @@ pub fn line<'a>(r: Reader<'a>) -> Line
     line_at(r.text, r.at)
 }
 
-// The same from a text and an offset: whoever calls this needs no walk.
-pub fn read_line(text: &[u8], at: usize) -> Line
-    ensures { λ l. ⌜ l ≡ lineAt (now (text .entry)) at ⌝ }
+// The reader moved to the line at `at`.
+pub fn moved<'a>(r: Reader<'a>, at: usize) -> Reader<'a>
+    ensures { λ q. ⌜ (q .text ≡ r .entry .text) × (q .at ≡ at) ⌝ }
 {
-    line(Reader { text, at })
+    Reader { text: r.text, at }
 }

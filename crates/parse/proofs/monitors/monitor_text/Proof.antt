@@ -4,7 +4,8 @@ use mathlib.Core.Path.{_≡_, sym, _∙_}
 use native.Mathlib.Omega.{arith}
 use mir.Val.{toZ, ofZ}
 use mir.Syntax.{w32}
-use Rattle.parse.proofs.MonitorCases.{too-long, no-chart, line-fits, goes-on, whole}
+use Rattle.parse.proofs.PartCases.{first-is, rules-are, points-are}
+use Rattle.parse.proofs.MonitorCases.{too-long, no-chart, refused-rule, line-fits, goes-on, whole}
 use Rattle.parse.proofs.monitors.monitor_text.Statement.{statement}
 use Rattle.parse.proofs.monitors.monitor_text.Tie as tie
 
@@ -14,11 +15,11 @@ refused-monitor-requires c κs = search needs
 returns : tie.Need-returns
 returns c = c .refused-monitor .ensures ∙ too-long (c .before .before .before .args .text .now) (omega arith)
 
-read-line-requires : tie.Need-read-line-requires
-read-line-requires c κs = search needs
+read-parts-requires : tie.Need-read-parts-requires
+read-parts-requires c κs = search needs
 
-enum-known-centre : tie.Need-enum-known-centre
-enum-known-centre c = search needs
+enum-known-first : tie.Need-enum-known-first
+enum-known-first c = search needs
 
 refused-monitor-requires-2 : tie.Need-refused-monitor-requires-2
 refused-monitor-requires-2 c κs = search needs
@@ -26,44 +27,51 @@ refused-monitor-requires-2 c κs = search needs
 returns-2 : tie.Need-returns-2
 returns-2 c =
     let x = c .before .before in
-    c .refused-monitor2 .ensures ∙ no-chart (x .before .before .before .args .text .now) (omega arith) _ (x .read-line .ensures) (c .before .match .keys2)
-
-read-rules-requires : tie.Need-read-rules-requires
-read-rules-requires c κs = search needs
-
-read-points-requires : tie.Need-read-points-requires
-read-points-requires c κs = search needs
-
-add-refused-monitor : tie.Need-add-refused-monitor
-add-refused-monitor c =
-    let p = c .before in
-    let r = p .before .before in
-    let x = r .before .before in
-    let s = x .before .before .before .before .before .args .text .now in
-    let first = sym (x .before .before .read-line .ensures) ∙ x .centre .given .1 in
-    omega (arith, line-fits s (omega arith) first _ (r .read-rules .ensures) _ (p .read-points .ensures))
+    let s = x .before .before .before .args .text .now in
+    c .refused-monitor2 .ensures ∙ no-chart s (omega arith) _ (first-is s _ (x .read-parts .ensures)) (c .before .match .keys2)
 
 refused-monitor-requires-3 : tie.Need-refused-monitor-requires-3
 refused-monitor-requires-3 c κs = search needs
 
 returns-3 : tie.Need-returns-3
 returns-3 c =
-    let p = c .before .before in
-    let r = p .before .before in
-    let x = r .before .before in
-    let s = x .before .before .before .before .before .args .text .now in
-    let first = sym (x .before .before .read-line .ensures) ∙ x .centre .given .1 in
-    c .refused-monitor3 .ensures ∙ goes-on s (omega arith) first _ (r .read-rules .ensures) _ (p .read-points .ensures) (omega arith)
+    let f = c .before .before .before .before .before .before in
+    let x = f .before .before in
+    let s = x .before .before .before .args .text .now in
+    let first = sym (first-is s _ (x .read-parts .ensures)) ∙ f .first .given .1 in
+    let rules = rules-are s _ (x .read-parts .ensures) first in
+    c .refused-monitor3 .ensures ∙ refused-rule s (omega arith) first _ rules (λ z. omega arith)
+
+add-refused-monitor : tie.Need-add-refused-monitor
+add-refused-monitor c =
+    let f = c .before .before .before .before .before .before .before .before in
+    let x = f .before .before in
+    let s = x .before .before .before .args .text .now in
+    let first = sym (first-is s _ (x .read-parts .ensures)) ∙ f .first .given .1 in
+    let rules = rules-are s _ (x .read-parts .ensures) first in
+    omega (arith, line-fits s (omega arith) first _ rules _ (points-are s _ (x .read-parts .ensures)))
+
+refused-monitor-requires-4 : tie.Need-refused-monitor-requires-4
+refused-monitor-requires-4 c κs = search needs
 
 returns-4 : tie.Need-returns-4
 returns-4 c =
-    let p = c .before in
-    let r = p .before .before in
-    let x = r .before .before in
-    let s = x .before .before .before .before .before .args .text .now in
-    let first = sym (x .before .before .read-line .ensures) ∙ x .centre .given .1 in
-    let back : toZ w32 (ofZ w32 (x .centre .given .0 .0)) ≡ x .centre .given .0 .0 = search needs in
-    rw back (whole s (omega arith) first _ (r .read-rules .ensures) _ (p .read-points .ensures) (omega arith))
+    let f = c .before .before .before .before .before .before .before .before .before in
+    let x = f .before .before in
+    let s = x .before .before .before .args .text .now in
+    let first = sym (first-is s _ (x .read-parts .ensures)) ∙ f .first .given .1 in
+    let rules = rules-are s _ (x .read-parts .ensures) first in
+    c .refused-monitor4 .ensures ∙ goes-on s (omega arith) first _ rules _ (points-are s _ (x .read-parts .ensures)) (omega arith)
+
+returns-5 : tie.Need-returns-5
+returns-5 c =
+    let back : toZ w32 (ofZ w32 (c .before .before .before .before .before .before .before .before .first .given .0 .0)) ≡ c .before .before .before .before .before .before .before .before .first .given .0 .0 = search needs in
+    let f = c .before .before .before .before .before .before .before .before in
+    let x = f .before .before in
+    let s = x .before .before .before .args .text .now in
+    let first = sym (first-is s _ (x .read-parts .ensures)) ∙ f .first .given .1 in
+    let rules = rules-are s _ (x .read-parts .ensures) first in
+    rw back (whole s (omega arith) first _ rules _ (points-are s _ (x .read-parts .ensures)) (omega arith))
 
 pub monitor-text-spec : {M : Type 1} → statement M
 monitor-text-spec =
@@ -71,13 +79,13 @@ monitor-text-spec =
     (tie.spec
     refused-monitor-requires
     returns
-    read-line-requires
-    enum-known-centre
+    read-parts-requires
+    enum-known-first
     refused-monitor-requires-2
     returns-2
-    read-rules-requires
-    read-points-requires
-    add-refused-monitor
     refused-monitor-requires-3
     returns-3
-    returns-4)
+    add-refused-monitor
+    refused-monitor-requires-4
+    returns-4
+    returns-5)

@@ -17,14 +17,14 @@ abbrev μ-loop : tie.MeasureT-loop
 loop-holds : tie.Need-loop-holds Inv-loop μ-loop
 loop-holds c = points-start _ _
 
-read-line-requires : tie.Need-read-line-requires Inv-loop μ-loop
-read-line-requires c κs = search needs
+line-at-requires : tie.Need-line-at-requires Inv-loop μ-loop
+line-at-requires c κs = search needs
 
 enum-known-next : tie.Need-enum-known-next Inv-loop μ-loop
 enum-known-next c = search needs
 
 returns : tie.Need-returns Inv-loop μ-loop
-returns c = points-done _ (c .before .read-line .ensures) (c .match .keys2) (c .before .before .loop .inv)
+returns c = points-done _ (c .before .line-at .ensures) (c .match .keys2) (c .before .before .loop .inv)
 
 add-count : tie.Need-add-count Inv-loop μ-loop
 add-count c = omega arith
@@ -32,13 +32,13 @@ add-count c = omega arith
 loop-less : tie.Need-loop-less Inv-loop μ-loop
 loop-less c =
     let k = c .before in
-    let a = point-ahead _ _ _ _ (sym (k .before .before .read-line .ensures) ∙ k .next .given .1) in
+    let a = point-ahead _ _ _ _ (sym (k .before .before .line-at .ensures) ∙ k .next .given .1) in
     omega (arith, a)
 
 loop-again : tie.Need-loop-again Inv-loop μ-loop
 loop-again c =
     let k = c .before in
-    points-more _ _ (sym (k .before .before .read-line .ensures) ∙ k .next .given .1) (k .before .before .before .loop .inv)
+    points-more _ _ (sym (k .before .before .line-at .ensures) ∙ k .next .given .1) (k .before .before .before .loop .inv)
 
 pub read-points-spec : {M : Type 1} → statement M
 read-points-spec =
@@ -47,7 +47,7 @@ read-points-spec =
     Inv-loop
     μ-loop
     loop-holds
-    read-line-requires
+    line-at-requires
     enum-known-next
     returns
     add-count

@@ -2,7 +2,8 @@
 use borrow.Author.Needs.{needs}
 use mathlib.Core.Path.{sym, _∙_}
 use native.Mathlib.Omega.{arith}
-use Rattle.parse.proofs.TableCases.{too-long, no-weights, line-fits, no-horizon, goes-on, whole}
+use Rattle.parse.proofs.PartCases.{first-is, rules-are, last-is}
+use Rattle.parse.proofs.TableCases.{too-long, no-weights, refused-rule, line-fits, no-horizon, goes-on, whole}
 use Rattle.parse.proofs.tables.table_text.Statement.{statement}
 use Rattle.parse.proofs.tables.table_text.Tie as tie
 
@@ -12,11 +13,11 @@ refused-table-requires c κs = search needs
 returns : tie.Need-returns
 returns c = c .refused-table .ensures ∙ too-long (c .before .before .before .args .text .now) (omega arith)
 
-read-line-requires : tie.Need-read-line-requires
-read-line-requires c κs = search needs
+read-parts-requires : tie.Need-read-parts-requires
+read-parts-requires c κs = search needs
 
-enum-known-weights : tie.Need-enum-known-weights
-enum-known-weights c = search needs
+enum-known-first : tie.Need-enum-known-first
+enum-known-first c = search needs
 
 refused-table-requires-2 : tie.Need-refused-table-requires-2
 refused-table-requires-2 c κs = search needs
@@ -24,62 +25,70 @@ refused-table-requires-2 c κs = search needs
 returns-2 : tie.Need-returns-2
 returns-2 c =
     let x = c .before .before in
-    c .refused-table2 .ensures ∙ no-weights (x .before .before .before .args .text .now) (omega arith) _ (x .read-line .ensures) (c .before .match .keys2)
-
-read-rules-requires : tie.Need-read-rules-requires
-read-rules-requires c κs = search needs
-
-read-line-requires-2 : tie.Need-read-line-requires-2
-read-line-requires-2 c κs = search needs
-
-enum-known-horizon : tie.Need-enum-known-horizon
-enum-known-horizon c = search needs
+    let s = x .before .before .before .args .text .now in
+    c .refused-table2 .ensures ∙ no-weights s (omega arith) _ (first-is s _ (x .read-parts .ensures)) (c .before .match .keys2)
 
 refused-table-requires-3 : tie.Need-refused-table-requires-3
 refused-table-requires-3 c κs = search needs
 
 returns-3 : tie.Need-returns-3
 returns-3 c =
-    let x = c .before .before in
-    let r = x .before .before in
-    let w = r .before .before in
-    let s = w .before .before .before .before .before .args .text .now in
-    let first = sym (w .before .before .read-line .ensures) ∙ w .weights .given .1 in
-    c .refused-table3 .ensures ∙ no-horizon s (omega arith) first _ (r .read-rules .ensures) _ (x .read-line2 .ensures) (c .before .match2 .keys2)
+    let f = c .before .before .before .before .before .before in
+    let x = f .before .before in
+    let s = x .before .before .before .args .text .now in
+    let first = sym (first-is s _ (x .read-parts .ensures)) ∙ f .first .given .1 in
+    let rules = rules-are s _ (x .read-parts .ensures) first in
+    c .refused-table3 .ensures ∙ refused-rule s (omega arith) first _ rules (λ z. omega arith)
 
-add-refused-table : tie.Need-add-refused-table
-add-refused-table c =
-    let r = c .before .before .before .before .before .before in
-    let w = r .before .before in
-    let s = w .before .before .before .before .before .args .text .now in
-    let first = sym (w .before .before .read-line .ensures) ∙ w .weights .given .1 in
-    omega (arith, line-fits s (omega arith) first _ (r .read-rules .ensures))
+enum-known-last : tie.Need-enum-known-last
+enum-known-last c = search needs
 
 refused-table-requires-4 : tie.Need-refused-table-requires-4
 refused-table-requires-4 c κs = search needs
 
 returns-4 : tie.Need-returns-4
 returns-4 c =
-    let k = c .before .before in
-    let r = k .before .before .before .before .before in
-    let w = r .before .before in
-    let s = w .before .before .before .before .before .args .text .now in
-    let first = sym (w .before .before .read-line .ensures) ∙ w .weights .given .1 in
-    let last = sym (k .before .before .before .read-line2 .ensures) ∙ k .before .horizon .given .1 in
-    c .refused-table4 .ensures ∙ goes-on s (omega arith) first _ (r .read-rules .ensures) last (omega arith)
+    let f = c .before .before .before .before .before .before .before .before in
+    let x = f .before .before in
+    let s = x .before .before .before .args .text .now in
+    let first = sym (first-is s _ (x .read-parts .ensures)) ∙ f .first .given .1 in
+    let rules = rules-are s _ (x .read-parts .ensures) first in
+    c .refused-table4 .ensures ∙ no-horizon s (omega arith) first _ rules _ (last-is s _ (x .read-parts .ensures)) (c .before .match2 .keys2)
+
+add-refused-table : tie.Need-add-refused-table
+add-refused-table c =
+    let f = c .before .before .before .before .before .before .before .before .before .before in
+    let x = f .before .before in
+    let s = x .before .before .before .args .text .now in
+    let first = sym (first-is s _ (x .read-parts .ensures)) ∙ f .first .given .1 in
+    let rules = rules-are s _ (x .read-parts .ensures) first in
+    omega (arith, line-fits s (omega arith) first _ rules)
+
+refused-table-requires-5 : tie.Need-refused-table-requires-5
+refused-table-requires-5 c κs = search needs
+
+returns-5 : tie.Need-returns-5
+returns-5 c =
+    let f = c .before .before .before .before .before .before .before .before .before .before .before in
+    let x = f .before .before in
+    let s = x .before .before .before .args .text .now in
+    let first = sym (first-is s _ (x .read-parts .ensures)) ∙ f .first .given .1 in
+    let rules = rules-are s _ (x .read-parts .ensures) first in
+    let last = sym (last-is s _ (x .read-parts .ensures)) ∙ c .before .before .before .last .given .1 in
+    c .refused-table5 .ensures ∙ goes-on s (omega arith) first _ rules last (omega arith)
 
 weight-array-requires : tie.Need-weight-array-requires
 weight-array-requires c κs = search needs
 
-returns-5 : tie.Need-returns-5
-returns-5 c =
-    let k = c .before .before in
-    let r = k .before .before .before .before .before in
-    let w = r .before .before in
-    let s = w .before .before .before .before .before .args .text .now in
-    let first = sym (w .before .before .read-line .ensures) ∙ w .weights .given .1 in
-    let last = sym (k .before .before .before .read-line2 .ensures) ∙ k .before .horizon .given .1 in
-    whole s (omega arith) first _ (r .read-rules .ensures) last (omega arith) _ (c .weight-array .ensures)
+returns-6 : tie.Need-returns-6
+returns-6 c =
+    let f = c .before .before .before .before .before .before .before .before .before .before .before in
+    let x = f .before .before in
+    let s = x .before .before .before .args .text .now in
+    let first = sym (first-is s _ (x .read-parts .ensures)) ∙ f .first .given .1 in
+    let rules = rules-are s _ (x .read-parts .ensures) first in
+    let last = sym (last-is s _ (x .read-parts .ensures)) ∙ c .before .before .before .last .given .1 in
+    whole s (omega arith) first _ rules last (omega arith) _ (c .weight-array .ensures)
 
 pub table-text-spec : {M : Type 1} → statement M
 table-text-spec =
@@ -87,17 +96,17 @@ table-text-spec =
     (tie.spec
     refused-table-requires
     returns
-    read-line-requires
-    enum-known-weights
+    read-parts-requires
+    enum-known-first
     refused-table-requires-2
     returns-2
-    read-rules-requires
-    read-line-requires-2
-    enum-known-horizon
     refused-table-requires-3
     returns-3
-    add-refused-table
+    enum-known-last
     refused-table-requires-4
     returns-4
+    add-refused-table
+    refused-table-requires-5
+    returns-5
     weight-array-requires
-    returns-5)
+    returns-6)

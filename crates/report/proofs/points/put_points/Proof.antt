@@ -26,8 +26,8 @@ fresh-requires c κs = search needs
 loop-holds : tie.Need-loop-holds Inv-loop μ-loop
 loop-holds c = rw (c .fresh .ensures) (charted-start (c .before .before .before .pre .0 .1))
 
-read-line-requires : tie.Need-read-line-requires Inv-loop μ-loop
-read-line-requires c κs = search needs
+line-at-requires : tie.Need-line-at-requires Inv-loop μ-loop
+line-at-requires c κs = search needs
 
 enum-known-reading : tie.Need-enum-known-reading Inv-loop μ-loop
 enum-known-reading c = search needs
@@ -42,7 +42,7 @@ returns : tie.Need-returns Inv-loop μ-loop
 returns c =
     let t = c .before .before in
     let k = t .before .before .before in
-    charted-done (k .before .loop .inv) _ (k .read-line .ensures) (t .before .before .match .keys2) _ (t .put-total .ensures .0)
+    charted-done (k .before .loop .inv) _ (k .line-at .ensures) (t .before .before .match .keys2) _ (t .put-total .ensures .0)
 
 zone-at-requires : tie.Need-zone-at-requires Inv-loop μ-loop
 zone-at-requires c κs = search needs
@@ -65,7 +65,7 @@ take-requires c κs =
 put-answer-requires : tie.Need-put-answer-requires Inv-loop μ-loop
 put-answer-requires c κs =
     let k = c .before .before .before .before .before .before in
-    let l = points-left (k .before .before .before .loop .inv) _ _ (sym (k .before .before .read-line .ensures) ∙ k .reading .given .1) in
+    let l = points-left (k .before .before .before .loop .inv) _ _ (sym (k .before .before .line-at .ensures) ∙ k .reading .given .1) in
     omega (arith, l, k .before .before .before .loop .inv .room, k .before .before .before .loop .inv .size)
 
 one-signal-requires : tie.Need-one-signal-requires Inv-loop μ-loop
@@ -86,7 +86,7 @@ add-points c =
 loop-less : tie.Need-loop-less Inv-loop μ-loop
 loop-less c =
     let k = c .before .before .before .before .before .before .before .before .before .before .before in
-    let a = point-ahead _ _ _ _ (sym (k .before .before .read-line .ensures) ∙ k .reading .given .1) in
+    let a = point-ahead _ _ _ _ (sym (k .before .before .line-at .ensures) ∙ k .reading .given .1) in
     omega (arith, a)
 
 loop-again : tie.Need-loop-again Inv-loop μ-loop
@@ -99,7 +99,7 @@ loop-again c =
     let x : toZ w32 (ofZ w32 (k .reading .given .0 .0)) ≡ k .reading .given .0 .0 = search needs in
     let centre : toZ w32 (ofZ w32 (chart .centre)) ≡ chart .centre = search needs in
     let zone = z .zone-at .ensures ∙ zone-given x centre (chart .sigma) in
-    charted-more (k .before .before .before .loop .inv) (k .before .before .before .before .before .before .before .pre .0 .1) _ _ (sym (k .before .before .read-line .ensures) ∙ k .reading .given .1) _ zone _ (t .take .ensures) _ _
+    charted-more (k .before .before .before .loop .inv) (k .before .before .before .before .before .before .before .pre .0 .1) _ _ (sym (k .before .before .line-at .ensures) ∙ k .reading .given .1) _ zone _ (t .take .ensures) _ _
     (w .put-answer .ensures .0) (w .put-answer .ensures .1) (c .before .one-signal .ensures)
 
 pub put-points-spec : {M : Type 1} → statement M
@@ -110,7 +110,7 @@ put-points-spec =
     μ-loop
     fresh-requires
     loop-holds
-    read-line-requires
+    line-at-requires
     enum-known-reading
     put-total-requires
     same-length
