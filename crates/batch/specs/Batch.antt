@@ -4,26 +4,26 @@ use mathlib.Core.List.{List, [], _∷_}
 use lib.IntN.{ℤ}
 use Rattle.rules.specs.declared.Checked.{Checked}
 use Rattle.rules.specs.declared.Checked.the-variants.{Accepted}
-use Rattle.rules.specs.declared.Refusal.{Refusal}
+use Rattle.rules.specs.declared.refusal.Refusal.{Refusal}
 use Rattle.rules.specs.declared.RuleList.{RuleList}
 use Rattle.rules.specs.Check.{checkOf}
 use Rattle.rules.specs.Refusal.{refusal}
 use Rattle.monitor.specs.declared.Monitor.{Monitor}
 use Rattle.monitor.specs.declared.Step.{Step}
 use Rattle.monitor.specs.declared.Step.the-variants.{Refused, Quiet, Signal}
-use Rattle.monitor.specs.declared.zone.Zoned.{Zoned}
-use Rattle.monitor.specs.declared.zone.Zoned.the-variants.{Zone}
+use Rattle.monitor.specs.declared.zone.ZoneAnswer.{ZoneAnswer}
+use Rattle.monitor.specs.declared.zone.ZoneAnswer.the-variants.{Zone}
 use Rattle.monitor.specs.Step.{stepOf}
 use Rattle.monitor.specs.Zone.{zoneOf}
 use Rattle.batch.specs.declared.Batch.{Batch}
 
 -- a step in the reading's zone, where it has one
-abbrev pub stepIn : RuleList → Monitor → Zoned → Step
+abbrev pub stepIn : RuleList → Monitor → ZoneAnswer → Step
 stepIn l m (Zone z) = stepOf l m z
-stepIn l m (Zoned.Refused x) = Refused x
+stepIn l m (ZoneAnswer.Refused x) = Refused x
 
 -- one reading: refused by the rule list (2, 3, 4), then by sigma (1), then as the step in its zone is (5, 7)
-abbrev pub readingBy : Checked → RuleList → Monitor → Zoned → Step
+abbrev pub readingBy : Checked → RuleList → Monitor → ZoneAnswer → Step
 readingBy Accepted l m t = stepIn l m t
 readingBy (Checked.Refused x) l m t = Refused x
 

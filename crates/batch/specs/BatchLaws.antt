@@ -14,7 +14,7 @@ use Rattle.rules.specs.declared.Rule.{Rule}
 use Rattle.rules.specs.declared.RuleList.{RuleList}
 use Rattle.rules.specs.declared.Checked.{Checked}
 use Rattle.rules.specs.declared.Checked.the-variants.{Accepted}
-use Rattle.rules.specs.declared.Refusal.{Refusal}
+use Rattle.rules.specs.declared.refusal.Refusal.{Refusal}
 use Rattle.rules.specs.Check.{activeRules, checkOf}
 use Rattle.rules.specs.CheckLaws.{accepted}
 use Rattle.rules.specs.Refusal.{badSigma, badState, badCount}
@@ -22,7 +22,8 @@ use Rattle.monitor.specs.declared.Monitor.{Monitor}
 use Rattle.monitor.specs.declared.Step.{Step}
 use Rattle.monitor.specs.declared.Taken.{Taken}
 use Rattle.monitor.specs.State.{validState, stateMask}
-use Rattle.monitor.specs.Step.{maxCount, acceptedStep}
+use Rattle.rules.specs.Bounds.{maxNumber}
+use Rattle.monitor.specs.Step.{acceptedStep}
 use Rattle.monitor.specs.StepLaws.{step-bad-state, step-bad-count, step-take, take-quiet}
 use Rattle.monitor.specs.Take.{takenOf}
 use Rattle.monitor.specs.TakeLaws.{valid-next}
@@ -101,11 +102,11 @@ module _ (l : RuleList) (ok : checkOf l ≡ Accepted) (centre : ℤ) (sigma : �
         rw (take-quiet (activeRules l) m z n) (valid-next (activeRules l) (accepted l ok .2) (m .count) (m .state) z (zone-exists (x -ℤ centre) sigma) valid n)
 
     module _ (xs : List ℤ) where
-      batch-full : maxCount ≤ m .count → batchOf l m centre sigma (x ∷ xs) ≡ noneTaken badCount m
+      batch-full : maxNumber ≤ m .count → batchOf l m centre sigma (x ∷ xs) ≡ noneTaken badCount m
       unfolding batchOf
       batch-full h = rw (step-here, step-bad-count (activeRules l) m (zoneAt (x -ℤ centre) sigma) (zone-exists (x -ℤ centre) sigma) valid h)
 
-      module _ (h : m .count < maxCount) where
+      module _ (h : m .count < maxNumber) where
         batch-signal : (pointAt l m centre sigma x .mask ≡ 0 → ⊥) → batchOf l m centre sigma (x ∷ xs)
             ≡ record { taken = 1; refusal = noRefusal; count = m .count + 1; mask = pointAt l m centre sigma x .mask; next = pointAt l m centre sigma x .next }
         unfolding batchOf
@@ -144,18 +145,18 @@ module _ (l : RuleList) (ok : checkOf l ≡ Accepted) (centre : ℤ) (sigma : �
       left-first : batchOf l start centre sigma xs ≡ after i (batchOf l m centre sigma (x ∷ drop (i + 1) xs))
       left-first = same ∙ ap (λ (ys : List ℤ). after i (batchOf l m centre sigma ys)) first-left
 
-      pub left-full : maxCount ≤ m .count → batchOf l start centre sigma xs ≡ record { taken = i; refusal = badCount; count = m .count; mask = 0; next = m }
+      pub left-full : maxNumber ≤ m .count → batchOf l start centre sigma xs ≡ record { taken = i; refusal = badCount; count = m .count; mask = 0; next = m }
       left-full q =
           let e : i + 0 ≡ i = omega arith in
           left-first
           ∙ ap (after i) (batch-full x (drop (i + 1) xs) q)
           ∙ ap (λ (t : ℕ). record { taken = t; refusal = badCount; count = m .count; mask = 0; next = m }) e
 
-      pub left-signal : m .count < maxCount → (pointAt l m centre sigma x .mask ≡ 0 → ⊥) → batchOf l start centre sigma xs
+      pub left-signal : m .count < maxNumber → (pointAt l m centre sigma x .mask ≡ 0 → ⊥) → batchOf l start centre sigma xs
           ≡ record { taken = i + 1; refusal = noRefusal; count = m .count + 1; mask = pointAt l m centre sigma x .mask; next = pointAt l m centre sigma x .next }
       left-signal q e = left-first ∙ ap (after i) (batch-signal x (drop (i + 1) xs) q e)
 
-      pub left-quiet : m .count < maxCount → pointAt l m centre sigma x .mask ≡ 0 → batchOf l start centre sigma xs
+      pub left-quiet : m .count < maxNumber → pointAt l m centre sigma x .mask ≡ 0 → batchOf l start centre sigma xs
           ≡ after (i + 1) (batchOf l (pointAt l m centre sigma x .next) centre sigma (drop (i + 1) xs))
       left-quiet q e =
           left-first ∙ ap (after i) (batch-quiet x (drop (i + 1) xs) q e) ∙ after-after i (batchOf l (pointAt l m centre sigma x .next) centre sigma (drop (i + 1) xs))

@@ -9,7 +9,8 @@ use Rattle.rules.specs.Ready.{westernElectric}
 use Rattle.rules.specs.Refusal.{badSigma, badCount}
 use Rattle.monitor.specs.Window.{hitsUpTo, live}
 use Rattle.monitor.specs.State.{validState, holding, nextState, moveOf}
-use Rattle.monitor.specs.Step.{maxCount, monitorAt, freshMonitor, acceptedStep, stepOf}
+use Rattle.rules.specs.Bounds.{maxNumber}
+use Rattle.monitor.specs.Step.{monitorAt, freshMonitor, acceptedStep, stepOf}
 use Rattle.monitor.specs.Zone.{zoneOf}
 use Rattle.batch.specs.Batch.{noRefusal, noneTaken, readingStep, batchOf}
 
@@ -35,6 +36,6 @@ bad-sigma = refl
 
 -- the first of two readings fills the count, and the second is refused
 full-at-second : batchOf westernElectric (monitorAt 0 4294967294) (pos 100) 10 (pos 100 ∷ pos 90 ∷ [])
-    ≡ record { taken = 1; refusal = badCount; count = maxCount; mask = 0; next = monitorAt (256 ^ 6) maxCount }
+    ≡ record { taken = 1; refusal = badCount; count = maxNumber; mask = 0; next = monitorAt (256 ^ 6) maxNumber }
 unfolding checkOf checkRules rulesFrom maskOf hitsUpTo live validState holding nextState moveOf acceptedStep stepOf zoneOf readingStep batchOf
 full-at-second = refl

@@ -1,8 +1,9 @@
 // A batch of readings on one chart: what the rule list alone decides is decided once.
 use monitor::Monitor;
-use monitor::zone::Zoned;
+use monitor::zone::ZoneAnswer;
 use monitor::zone::zone_at;
 use rules::Checked;
+use rules::MAX_NUMBER;
 use rules::Refusal;
 use rules::RuleList;
 ghost use mathlib.Core.Path.{_≡_};
@@ -61,7 +62,7 @@ fn take_accepted(
     let mut i: usize = 0;
     while i < len {
         let points = at.count;
-        if points >= Monitor::MAX_COUNT {
+        if points >= MAX_NUMBER {
             return Batch {
                 taken: i,
                 refusal: BAD_COUNT,
@@ -124,10 +125,10 @@ pub fn take_readings(
     if let Checked::Refused(refusal) = checked {
         return none_taken(refusal, monitor);
     }
-    if sigma < Zoned::MIN_SIGMA {
+    if sigma < ZoneAnswer::MIN_SIGMA {
         return none_taken(BAD_SIGMA, monitor);
     }
-    if sigma > Zoned::MAX_SIGMA {
+    if sigma > ZoneAnswer::MAX_SIGMA {
         return none_taken(BAD_SIGMA, monitor);
     }
     if !monitor.valid(list) {

@@ -3,15 +3,16 @@ use Prim.Native.Nat.{ℕ, _≤_}
 use mathlib.Core.List.{List}
 use lib.ListN.{length}
 use Rattle.rules.specs.Bounds.{maxStates}
-use Rattle.bracket.specs.Limits.{minLength, maxLength, minStates, minPercent, maxPercent, whole}
+use Rattle.runlength.specs.Scale.{minHorizon, maxHorizon, unitsPerOne}
+use Rattle.bracket.specs.Limits.{minStates, minPercent, maxPercent}
 use Rattle.bracket.specs.Bracket.{cdfOf}
 
 -- none of 12 to 15 applies
 pub record Accepted (pmf : List ℕ) (states p : ℕ) : Type 0 where
-  pub not-empty : minLength ≤ length pmf
-  pub short : length pmf ≤ maxLength
+  pub not-empty : minHorizon ≤ length pmf
+  pub short : length pmf ≤ maxHorizon
   pub some-states : minStates ≤ states
   pub few-states : states ≤ maxStates
   pub some-percent : minPercent ≤ p
   pub part-percent : p ≤ maxPercent
-  pub total : cdfOf pmf (length pmf) ≤ whole
+  pub total : cdfOf pmf (length pmf) ≤ unitsPerOne

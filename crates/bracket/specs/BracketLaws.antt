@@ -12,7 +12,7 @@ use borrow.Author.Tests.{le-leb, eq-eqb, ne-eqb}
 use Rattle.runlength.specs.Percentile.{least, Percentile}
 use Rattle.runlength.specs.PercentileLaws.{least-none, least-percentile}
 use Rattle.bracket.specs.declared.BracketAnswer.the-variants.{At, Between, Open, Beyond}
-use Rattle.bracket.specs.Limits.{whole, hundred}
+use Rattle.runlength.specs.Scale.{unitsPerOne, percentsPerOne}
 use Rattle.bracket.specs.Bracket.{cdfOf, highTest, lowTest, bracketBy, bracketOf}
 use Rattle.bracket.specs.Accepted.{Accepted}
 use Rattle.bracket.specs.RefusedLaws.{answered}
@@ -21,7 +21,7 @@ use Rattle.bracket.specs.RefusedLaws.{answered}
 pub accepted-bracket : (pmf : List ℕ) (states p : ℕ) → Accepted pmf states p
     → bracketOf pmf states p ≡ bracketBy (least (lowTest pmf states p) (length pmf)) (least (highTest pmf p) (length pmf)) (length pmf)
 accepted-bracket pmf states p a =
-    answered pmf states p (a .not-empty) (a .short) (a .some-states) (a .few-states) (a .some-percent) (a .part-percent) (le-leb (cdfOf pmf (length pmf)) whole (a .total))
+    answered pmf states p (a .not-empty) (a .short) (a .some-states) (a .few-states) (a .some-percent) (a .part-percent) (le-leb (cdfOf pmf (length pmf)) unitsPerOne (a .total))
 
 -- the answer by the two bounds, case by case
 module _ {low : Option ℕ} (high : Option ℕ) (h : ℕ) where
@@ -46,7 +46,7 @@ module _ {low : Option ℕ} (high : Option ℕ) (h : ℕ) where
       by-unequal e = by-both ∙ ap (λ (b : Bool). cond b (At l) (Between l u)) (ne-eqb l u e)
 
 -- with anything added, what was reached is passed
-over : (a x s : ℕ) → a ≤ hundred * x → 1 ≤ s → a < hundred * (x + s)
+over : (a x s : ℕ) → a ≤ percentsPerOne * x → 1 ≤ s → a < percentsPerOne * (x + s)
 over a x s h l = omega arith
 
 module _ (pmf : List ℕ) (states p : ℕ) where
@@ -54,7 +54,7 @@ module _ (pmf : List ℕ) (states p : ℕ) where
   pub high-low : (n : ℕ) → 1 ≤ n → T (highTest pmf p n) → T (lowTest pmf states p n)
   unfolding highTest lowTest
   high-low n i t =
-      lt→ltb _ _ (over (p * whole) (cdfOf pmf n) (n * (states + 1)) (leb→le _ _ t) (mul-le-mul {n₁ = 1} {m₁ = 1} {n₂ = n} {m₂ = states + 1} i (omega arith)))
+      lt→ltb _ _ (over (p * unitsPerOne) (cdfOf pmf n) (n * (states + 1)) (leb→le _ _ t) (mul-le-mul {n₁ = 1} {m₁ = 1} {n₂ = n} {m₂ = states + 1} i (omega arith)))
 
   -- so with no low there is no high, and 'beyond' means neither
   pub no-low-no-high : (h : ℕ) → least (lowTest pmf states p) h ≡ none → least (highTest pmf p) h ≡ none

@@ -8,7 +8,7 @@ use lib.Dec.{leb}
 use lib.ListN.{length, getD}
 use borrow.Author.Tests.{le-leb, lt-leb}
 use Rattle.runlength.specs.SumLaws.{sum-zero, sum-more, sum-upto}
-use Rattle.bracket.specs.Limits.{whole}
+use Rattle.runlength.specs.Scale.{unitsPerOne}
 use Rattle.bracket.specs.Bracket.{cdfOf}
 
 module _ (pmf : List ℕ) where
@@ -27,11 +27,11 @@ module _ (pmf : List ℕ) where
   cdf-upto m n h = sum-upto m n (λ k. getD pmf k 0) h
 
   -- a chance over what is left: the whole list sums to more
-  pub total-over : (left i : ℕ) → cdfOf pmf i + left ≡ whole → i < length pmf → left < getD pmf i 0
-      → leb (cdfOf pmf (length pmf)) whole ≡ false
+  pub total-over : (left i : ℕ) → cdfOf pmf i + left ≡ unitsPerOne → i < length pmf → left < getD pmf i 0
+      → leb (cdfOf pmf (length pmf)) unitsPerOne ≡ false
   total-over left i e h l =
-      lt-leb (cdfOf pmf (length pmf)) whole (omega (arith, cdf-more i, cdf-upto (i + 1) (length pmf) (omega arith)))
+      lt-leb (cdfOf pmf (length pmf)) unitsPerOne (omega (arith, cdf-more i, cdf-upto (i + 1) (length pmf) (omega arith)))
 
   -- nothing is over at the end: the whole list sums to no more
-  pub total-within : (left i : ℕ) → cdfOf pmf i + left ≡ whole → i ≡ length pmf → leb (cdfOf pmf (length pmf)) whole ≡ true
-  total-within left i e h = le-leb (cdfOf pmf (length pmf)) whole (omega (arith, ap (λ (n : ℕ). cdfOf pmf n) h))
+  pub total-within : (left i : ℕ) → cdfOf pmf i + left ≡ unitsPerOne → i ≡ length pmf → leb (cdfOf pmf (length pmf)) unitsPerOne ≡ true
+  total-within left i e h = le-leb (cdfOf pmf (length pmf)) unitsPerOne (omega (arith, ap (λ (n : ℕ). cdfOf pmf n) h))

@@ -1,5 +1,4 @@
 pub mod Limits
-pub mod Refusal
 pub mod Bracket
 pub mod Accepted
 pub mod Reached

@@ -9,13 +9,13 @@ use lib.ListN.{length}
 use Rattle.runlength.specs.Percentile.{least}
 use Rattle.bracket.specs.declared.Reached.{Reached}
 use Rattle.bracket.specs.declared.Reached.the-variants.{First, Never}
-use Rattle.bracket.specs.Limits.{maxLength, whole}
+use Rattle.runlength.specs.Scale.{maxHorizon, unitsPerOne}
 use Rattle.bracket.specs.Bracket.{cdfOf}
 
 -- a list that is not refused by 12 or 15
 pub record Chances (pmf : List ℕ) : Type 0 where
-  pub short : length pmf ≤ maxLength
-  pub total : cdfOf pmf (length pmf) ≤ whole
+  pub short : length pmf ≤ maxHorizon
+  pub total : cdfOf pmf (length pmf) ≤ unitsPerOne
 
 -- what was found, if anything
 abbrev pub optionOf : Reached → Option ℕ

@@ -11,7 +11,7 @@ use borrow.Author.Tests.{le-leb, lt-leb}
 use Rattle.runlength.specs.Percentile.{least}
 use Rattle.runlength.specs.PercentileLaws.{least-cong}
 use Rattle.rules.specs.Bounds.{maxStates}
-use Rattle.bracket.specs.Limits.{maxLength, whole, hundred}
+use Rattle.runlength.specs.Scale.{maxHorizon, unitsPerOne, percentsPerOne}
 use Rattle.bracket.specs.Bracket.{cdfOf, lowTest, highTest}
 use Rattle.bracket.specs.Reached.{Chances, Searched, reachTest}
 use Rattle.bracket.specs.CdfLaws.{cdf-zero, cdf-more, cdf-upto}
@@ -32,10 +32,10 @@ module _ (pmf : List ℕ) (slack goal : ℕ) where
     sum-next = omega (arith, cdf-more pmf n, before .summed)
 
     -- which fits 64 bits with room to spare
-    pub next-room : Chances pmf → slack ≤ maxStates + 1 → sum + (getD pmf n 0 + slack) ≤ whole + maxLength * (maxStates + 1)
+    pub next-room : Chances pmf → slack ≤ maxStates + 1 → sum + (getD pmf n 0 + slack) ≤ unitsPerOne + maxHorizon * (maxStates + 1)
     next-room fits s =
         omega
-        (arith, sum-next, fits .total, cdf-upto pmf (n + 1) (length pmf) (omega arith), mul-le-mul {n₁ = n + 1} {m₁ = slack} {n₂ = maxLength} {m₂ = maxStates + 1} (omega (arith, fits .short)) s)
+        (arith, sum-next, fits .total, cdf-upto pmf (n + 1) (length pmf) (omega arith), mul-le-mul {n₁ = n + 1} {m₁ = slack} {n₂ = maxHorizon} {m₂ = maxStates + 1} (omega (arith, fits .short)) s)
 
     -- the goal is reached at n + 1
     pub searched-here : goal ≤ sum + (getD pmf n 0 + slack) → least (reachTest pmf slack goal) (length pmf) ≡ some (n + 1)
@@ -58,20 +58,20 @@ module _ (pmf : List ℕ) (slack goal : ℕ) where
       least-end (reachTest pmf slack goal) n (length pmf) (before .none-yet) (omega (arith, before .upto))
 
   -- the search with N + 1 for each chance, for the number after the share rounded down, is the search for low
-  pub search-low : (states p h : ℕ) → slack ≡ states + 1 → goal ≡ (p * whole + hundred) / hundred
+  pub search-low : (states p h : ℕ) → slack ≡ states + 1 → goal ≡ (p * unitsPerOne + percentsPerOne) / percentsPerOne
       → least (reachTest pmf slack goal) h ≡ least (lowTest pmf states p) h
   unfolding reachTest lowTest
   search-low states p h s g =
       least-cong (reachTest pmf slack goal) (lowTest pmf states p) h
-      (λ n i l. ap₂ (λ (x y : ℕ). leb y (cdfOf pmf n + n * x)) s g ∙ over-share hundred (omega arith) (p * whole) (cdfOf pmf n + n * (states + 1)))
+      (λ n i l. ap₂ (λ (x y : ℕ). leb y (cdfOf pmf n + n * x)) s g ∙ over-share percentsPerOne (omega arith) (p * unitsPerOne) (cdfOf pmf n + n * (states + 1)))
 
   no-slack : (n : ℕ) → slack ≡ 0 → cdfOf pmf n + n * slack ≡ cdfOf pmf n
   no-slack n s = omega (arith, ap (λ (x : ℕ). n * x) s)
 
   -- the search with nothing for each chance, for the share rounded up, is the search for high
-  pub search-high : (p h : ℕ) → slack ≡ 0 → goal ≡ (p * whole + (hundred - 1)) / hundred
+  pub search-high : (p h : ℕ) → slack ≡ 0 → goal ≡ (p * unitsPerOne + (percentsPerOne - 1)) / percentsPerOne
       → least (reachTest pmf slack goal) h ≡ least (highTest pmf p) h
   unfolding reachTest highTest
   search-high p h s g =
       least-cong (reachTest pmf slack goal) (highTest pmf p) h
-      (λ n i l. ap₂ (λ (x y : ℕ). leb y x) (no-slack n s) g ∙ at-least-share hundred (omega arith) (p * whole) (cdfOf pmf n))
+      (λ n i l. ap₂ (λ (x y : ℕ). leb y x) (no-slack n s) g ∙ at-least-share percentsPerOne (omega arith) (p * unitsPerOne) (cdfOf pmf n))

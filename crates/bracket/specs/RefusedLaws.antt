@@ -10,8 +10,9 @@ use Rattle.rules.specs.Check.{within}
 use Rattle.runlength.specs.Percentile.{least}
 use Rattle.bracket.specs.declared.BracketAnswer.the-variants.{Refused}
 use Rattle.rules.specs.Bounds.{maxStates}
-use Rattle.bracket.specs.Limits.{minLength, maxLength, minStates, minPercent, maxPercent, whole}
-use Rattle.bracket.specs.Refusal.{badListLength, badStateCount, badPercent, badTotal}
+use Rattle.rules.specs.Refusal.{badListLength, badStateCount, badPercent, badTotal}
+use Rattle.runlength.specs.Scale.{minHorizon, maxHorizon, unitsPerOne}
+use Rattle.bracket.specs.Limits.{minStates, minPercent, maxPercent}
 use Rattle.bracket.specs.Bracket.{cdfOf, lowTest, highTest, bracketBy, bracketOf}
 
 -- a number in its bounds, below them, above them
@@ -26,13 +27,13 @@ module _ (low high x : ℕ) where
   over-range h k = ap (λ (b : Bool). cond b (leb x high) false) (le-leb low x h) ∙ lt-leb x high k
 
 module _ (pmf : List ℕ) (states p : ℕ) where
-  pub refused-length : within minLength maxLength (length pmf) ≡ false → bracketOf pmf states p ≡ Refused badListLength
+  pub refused-length : within minHorizon maxHorizon (length pmf) ≡ false → bracketOf pmf states p ≡ Refused badListLength
   unfolding bracketOf
   refused-length e = rw e
 
-  module _ (not-empty : minLength ≤ length pmf) (short : length pmf ≤ maxLength) where
-    length-in : within minLength maxLength (length pmf) ≡ true
-    length-in = in-range minLength maxLength (length pmf) not-empty short
+  module _ (not-empty : minHorizon ≤ length pmf) (short : length pmf ≤ maxHorizon) where
+    length-in : within minHorizon maxHorizon (length pmf) ≡ true
+    length-in = in-range minHorizon maxHorizon (length pmf) not-empty short
 
     pub refused-states : within minStates maxStates states ≡ false → bracketOf pmf states p ≡ Refused badStateCount
     unfolding bracketOf
@@ -50,12 +51,12 @@ module _ (pmf : List ℕ) (states p : ℕ) where
         percent-in : within minPercent maxPercent p ≡ true
         percent-in = in-range minPercent maxPercent p some-percent part-percent
 
-        pub refused-total : leb (cdfOf pmf (length pmf)) whole ≡ false → bracketOf pmf states p ≡ Refused badTotal
+        pub refused-total : leb (cdfOf pmf (length pmf)) unitsPerOne ≡ false → bracketOf pmf states p ≡ Refused badTotal
         unfolding bracketOf
         refused-total e = rw (length-in, states-in, percent-in, e)
 
         -- no refusal applies
-        pub answered : leb (cdfOf pmf (length pmf)) whole ≡ true
+        pub answered : leb (cdfOf pmf (length pmf)) unitsPerOne ≡ true
             → bracketOf pmf states p ≡ bracketBy (least (lowTest pmf states p) (length pmf)) (least (highTest pmf p) (length pmf)) (length pmf)
         unfolding bracketOf
         answered e = rw (length-in, states-in, percent-in, e)

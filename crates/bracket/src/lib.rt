@@ -1,6 +1,10 @@
 // The percentile bracket of a list of chances: two bounds of the percentile, and the answer that they make.
 use rules::Refusal;
 use rules::RuleList;
+use runlength::MAX_HORIZON;
+use runlength::MIN_HORIZON;
+use runlength::PERCENTS_PER_ONE;
+use runlength::UNITS_PER_ONE;
 ghost use mathlib.Core.Path.{_≡_};
 ghost use Prim.Native.Nat.{_+_, _*_, _/_, _≤_};
 ghost use lib.Dec.{leb};
@@ -9,7 +13,8 @@ ghost use Rattle.rules.specs.Refusal.{refusal};
 ghost use Rattle.runlength.specs.Percentile.{least};
 ghost use Rattle.bracket.specs.declared.BracketAnswer.the-variants.{Refused};
 ghost use Rattle.rules.specs.Bounds.{maxStates};
-ghost use Rattle.bracket.specs.Limits.{maxPercent, whole, hundred};
+ghost use Rattle.runlength.specs.Scale.{unitsPerOne, percentsPerOne};
+ghost use Rattle.bracket.specs.Limits.{maxPercent};
 ghost use Rattle.bracket.specs.Bracket.{cdfOf, lowTest, highTest, bracketBy, bracketOf};
 ghost use Rattle.bracket.specs.Reached.{optionOf, reachTest, Chances};
 
@@ -23,21 +28,9 @@ pub enum BracketAnswer {
 }
 
 impl BracketAnswer {
-    // The list is empty or too long.
-    pub const LIST_LENGTH: u32 = 12;
+    pub const MIN_LENGTH: usize = MIN_HORIZON as usize;
 
-    // The number of states is outside its bounds.
-    pub const STATE_COUNT: u32 = 13;
-
-    // The percent is outside its bounds.
-    pub const PERCENT: u32 = 14;
-
-    // The chances sum to more than probability one.
-    pub const TOTAL: u32 = 15;
-
-    pub const MIN_LENGTH: usize = 1;
-
-    pub const MAX_LENGTH: usize = 65535;
+    pub const MAX_LENGTH: usize = MAX_HORIZON as usize;
 
     pub const MIN_STATES: u32 = 1;
 
@@ -46,12 +39,6 @@ impl BracketAnswer {
     pub const MIN_PERCENT: u32 = 1;
 
     pub const MAX_PERCENT: u32 = 99;
-
-    // Probability one, in units of 2^-60.
-    pub const WHOLE: u64 = 1 << 60;
-
-    // A percent is one of so many parts.
-    pub const HUNDRED: u64 = 100;
 }
 
 // What a search for the least number found.
@@ -69,9 +56,9 @@ fn refused(number: u32) -> BracketAnswer
 
 // Whether the chances sum to at most probability one. Nothing wraps: what is left of it falls by each chance.
 fn sum_fits(pmf: &[u64]) -> bool
-    ensures { λ r. ⌜ r ≡ leb (cdfOf (now (pmf .entry)) (length (now (pmf .entry)))) whole ⌝ }
+    ensures { λ r. ⌜ r ≡ leb (cdfOf (now (pmf .entry)) (length (now (pmf .entry)))) unitsPerOne ⌝ }
 {
-    let mut left = BracketAnswer::WHOLE;
+    let mut left = UNITS_PER_ONE;
     let mut i = 0;
     while i < pmf.len() {
         if pmf[i] > left {
@@ -85,12 +72,12 @@ fn sum_fits(pmf: &[u64]) -> bool
 
 // The whole part of (percent × 2^60 + more) / 100, with no product over 64 bits.
 fn hundredth(percent: u32, more: u64) -> u64
-    requires { ⌜ (percent ≤ maxPercent) × (more ≤ hundred) ⌝ }
-    ensures { λ r. ⌜ r ≡ (percent * whole + more) / hundred ⌝ }
+    requires { ⌜ (percent ≤ maxPercent) × (more ≤ percentsPerOne) ⌝ }
+    ensures { λ r. ⌜ r ≡ (percent * unitsPerOne + more) / percentsPerOne ⌝ }
 {
     let share = percent as u64;
-    share * (BracketAnswer::WHOLE / BracketAnswer::HUNDRED)
-        + (share * (BracketAnswer::WHOLE % BracketAnswer::HUNDRED) + more) / BracketAnswer::HUNDRED
+    share * (UNITS_PER_ONE / PERCENTS_PER_ONE)
+        + (share * (UNITS_PER_ONE % PERCENTS_PER_ONE) + more) / PERCENTS_PER_ONE
 }
 
 // The least n at which the first n chances, with `slack` added for each, sum to `goal` or more.
@@ -117,7 +104,7 @@ fn lower(pmf: &[u64], state_count: u32, percent: u32) -> Reached
     ensures { λ r. ⌜ optionOf r ≡ least (lowTest (now (pmf .entry)) «state_count» percent) (length (now (pmf .entry))) ⌝ }
 {
     let slack = state_count as u64 + 1;
-    let goal = hundredth(percent, BracketAnswer::HUNDRED);
+    let goal = hundredth(percent, PERCENTS_PER_ONE);
     first_reaching(pmf, slack, goal)
 }
 
@@ -127,7 +114,7 @@ fn upper(pmf: &[u64], percent: u32) -> Reached
     requires { ⌜ Chances (now pmf) × (percent ≤ maxPercent) ⌝ }
     ensures { λ r. ⌜ optionOf r ≡ least (highTest (now (pmf .entry)) percent) (length (now (pmf .entry))) ⌝ }
 {
-    let goal = hundredth(percent, BracketAnswer::HUNDRED - 1);
+    let goal = hundredth(percent, PERCENTS_PER_ONE - 1);
     first_reaching(pmf, 0, goal)
 }
 
@@ -155,25 +142,25 @@ pub fn percentile_bracket(pmf: &[u64], state_count: u32, percent: u32) -> Bracke
     ensures { λ r. ⌜ r ≡ bracketOf (now (pmf .entry)) «state_count» percent ⌝ }
 {
     if pmf.len() < BracketAnswer::MIN_LENGTH {
-        return refused(BracketAnswer::LIST_LENGTH);
+        return refused(Refusal::LIST_LENGTH);
     }
     if pmf.len() > BracketAnswer::MAX_LENGTH {
-        return refused(BracketAnswer::LIST_LENGTH);
+        return refused(Refusal::LIST_LENGTH);
     }
     if state_count < BracketAnswer::MIN_STATES {
-        return refused(BracketAnswer::STATE_COUNT);
+        return refused(Refusal::STATE_COUNT);
     }
     if state_count > BracketAnswer::MAX_STATES {
-        return refused(BracketAnswer::STATE_COUNT);
+        return refused(Refusal::STATE_COUNT);
     }
     if percent < BracketAnswer::MIN_PERCENT {
-        return refused(BracketAnswer::PERCENT);
+        return refused(Refusal::PERCENT);
     }
     if percent > BracketAnswer::MAX_PERCENT {
-        return refused(BracketAnswer::PERCENT);
+        return refused(Refusal::PERCENT);
     }
     if !sum_fits(pmf) {
-        return refused(BracketAnswer::TOTAL);
+        return refused(Refusal::TOTAL);
     }
     let low = lower(pmf, state_count, percent);
     let high = upper(pmf, percent);

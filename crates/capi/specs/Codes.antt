@@ -4,7 +4,7 @@ use mathlib.Core.List.{List, [], _∷_}
 use lib.ListN.{getD}
 use Rattle.rules.specs.declared.Rule.{Rule}
 use Rattle.rules.specs.declared.RuleList.{RuleList}
-use Rattle.rules.specs.declared.Refusal.{Refusal}
+use Rattle.rules.specs.declared.refusal.Refusal.{Refusal}
 use Rattle.rules.specs.Ready.{ruleOf}
 
 -- slot i of a list of numbers: k, m and the zone set
@@ -12,8 +12,8 @@ abbrev pub ruleAt : List ℕ → ℕ → Rule
 ruleAt slots i = ruleOf (getD slots (3 * i) 0) (getD slots (3 * i + 1) 0) (getD slots (3 * i + 2) 0)
 
 -- the rule list of eight slots
-abbrev pub listOf : List ℕ → ℕ → RuleList
-listOf slots count = record {
+abbrev pub slotList : List ℕ → ℕ → RuleList
+slotList slots count = record {
   rules = ruleAt slots 0 ∷ ruleAt slots 1 ∷ ruleAt slots 2 ∷ ruleAt slots 3 ∷ ruleAt slots 4 ∷ ruleAt slots 5 ∷ ruleAt slots 6 ∷ ruleAt slots 7 ∷ [];
   len = count;
 }

@@ -5,7 +5,7 @@ use mathlib.Core.List.{List}
 use lib.IntN.{ℤ}
 use lib.ListN.{getD, set}
 use Rattle.rules.specs.declared.RuleList.{RuleList}
-use Rattle.monitor.specs.declared.zone.Zoned.{Zoned}
+use Rattle.monitor.specs.declared.zone.ZoneAnswer.{ZoneAnswer}
 use Rattle.monitor.specs.declared.Monitor.{Monitor}
 use Rattle.monitor.specs.declared.Step.{Step}
 use Rattle.monitor.specs.Zone.{zoneOf}
@@ -14,13 +14,13 @@ use Rattle.capi.specs.Codes.{codeOf}
 
 -- ---- the zone of a reading
 
-abbrev pub zoneCode : Zoned → ℕ
-zoneCode (Zoned.Zone z) = 0
-zoneCode (Zoned.Refused x) = codeOf x
+abbrev pub zoneCode : ZoneAnswer → ℕ
+zoneCode (ZoneAnswer.Zone z) = 0
+zoneCode (ZoneAnswer.Refused x) = codeOf x
 
-abbrev pub zoneAfter : Zoned → List ℕ → List ℕ
-zoneAfter (Zoned.Zone z) zone = set zone 0 z
-zoneAfter (Zoned.Refused x) zone = zone
+abbrev pub zoneAfter : ZoneAnswer → List ℕ → List ℕ
+zoneAfter (ZoneAnswer.Zone z) zone = set zone 0 z
+zoneAfter (ZoneAnswer.Refused x) zone = zone
 
 pub record ZoneCall (reading centre : ℤ) (sigma : ℕ) (z z′ : List ℕ) (r : ℕ) : Type 0 where
   pub code : r ≡ zoneCode (zoneOf reading centre sigma)

@@ -4,7 +4,7 @@ use mathlib.Core.Path.{_≡_, sym, ap, _∙_}
 use mathlib.Core.List.{List}
 use lib.IntN.{ℤ}
 use Rattle.rules.specs.declared.RuleList.{RuleList}
-use Rattle.monitor.specs.declared.zone.Zoned.{Zoned}
+use Rattle.monitor.specs.declared.zone.ZoneAnswer.{ZoneAnswer}
 use Rattle.monitor.specs.declared.Monitor.{Monitor}
 use Rattle.monitor.specs.declared.Step.{Step}
 use Rattle.monitor.specs.Zone.{zoneOf}
@@ -12,11 +12,11 @@ use Rattle.monitor.specs.Step.{stepOf}
 use Rattle.capi.specs.MonitorCall.{zoneCode, zoneAfter, ZoneCall, stepCode, stateAfter, pointsAfter, answerAfter, StepCall}
 
 -- x and c are the reading and the centre as the operation was given them, t is its answer
-pub zone-call : {reading centre x c : ℤ} → x ≡ reading → c ≡ centre → (sigma : ℕ) (z z′ : List ℕ) (r : ℕ) (a t : Zoned)
+pub zone-call : {reading centre x c : ℤ} → x ≡ reading → c ≡ centre → (sigma : ℕ) (z z′ : List ℕ) (r : ℕ) (a t : ZoneAnswer)
     → a ≡ zoneOf x c sigma → a ≡ t → r ≡ zoneCode t → z′ ≡ zoneAfter t z → ZoneCall reading centre sigma z z′ r
 zone-call {reading} {centre} {x} {c} ex ec sigma z z′ r a t e q code after =
     let is : zoneOf reading centre sigma ≡ t = rw (← ex, ← ec) (sym e ∙ q) in
-    record { code = code ∙ sym (ap zoneCode is); zone = after ∙ sym (ap (λ (y : Zoned). zoneAfter y z) is) }
+    record { code = code ∙ sym (ap zoneCode is); zone = after ∙ sym (ap (λ (y : ZoneAnswer). zoneAfter y z) is) }
 
 -- k is the list that the call made of the slots, b the step's answer, which is t
 pub step-call : (l k : RuleList) (m : Monitor) (z : ℕ) (s p a s′ p′ a′ : List ℕ) (r : ℕ) (b t : Step) → k ≡ l → b ≡ stepOf k m z → b ≡ t

@@ -6,7 +6,7 @@ use batch::Batch;
 use monitor::Monitor;
 ghost use mathlib.Core.Path.{_≡_};
 ghost use Rattle.batch.specs.Batch.{batchOf};
-ghost use Rattle.capi.specs.Codes.{listOf};
+ghost use Rattle.capi.specs.Codes.{slotList};
 ghost use Rattle.capi.specs.MonitorCall.{monitorOf, stateAs, pointsAs};
 ghost use Rattle.capi.specs.BatchCall.{batchCode, batchAs, BatchCall};
 
@@ -52,7 +52,7 @@ pub extern "C" fn catrovindy_batch(
     answer: &mut [u64; 4],
 ) -> u64
     ensures { λ r. ⌜ BatchCall
-        (batchOf (listOf (now (slots .entry)) count) (monitorOf (now (state .entry)) (now (points .entry))) centre sigma (now (readings .entry)))
+        (batchOf (slotList (now (slots .entry)) count) (monitorOf (now (state .entry)) (now (points .entry))) centre sigma (now (readings .entry)))
         (now (state .entry)) (now (points .entry)) (now (answer .entry)) (now (state .exit)) (now (points .exit)) (now (answer .exit)) r ⌝ }
 {
     let kept = state[0];

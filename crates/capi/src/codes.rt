@@ -5,7 +5,7 @@ use rules::RuleList;
 ghost use mathlib.Core.Path.{_≡_};
 ghost use Prim.Native.Nat.{_<_};
 ghost use Rattle.rules.specs.Bounds.{maxRules};
-ghost use Rattle.capi.specs.Codes.{ruleAt, listOf, codeOf};
+ghost use Rattle.capi.specs.Codes.{ruleAt, slotList, codeOf};
 
 // The numbers of a rule list: k, m and the zone set of each of its slots.
 pub(crate) const SLOT_NUMBERS: usize = 3 * (RuleList::MAX_RULES as usize);
@@ -27,7 +27,7 @@ fn rule_at(slots: [u32; SLOT_NUMBERS], i: usize) -> Rule
 
 // The rule list of the slots.
 pub(crate) fn list_of(slots: [u32; SLOT_NUMBERS], count: u32) -> RuleList
-    ensures { λ r. ⌜ r ≡ listOf slots count ⌝ }
+    ensures { λ r. ⌜ r ≡ slotList slots count ⌝ }
 {
     RuleList {
         rules: [

@@ -4,10 +4,10 @@ use crate::codes::code;
 use crate::codes::list_of;
 use monitor::Monitor;
 use monitor::Step;
-use monitor::zone::Zoned;
+use monitor::zone::ZoneAnswer;
 use monitor::zone::zone_of;
 ghost use mathlib.Core.Path.{_≡_};
-ghost use Rattle.capi.specs.Codes.{listOf};
+ghost use Rattle.capi.specs.Codes.{slotList};
 ghost use Rattle.capi.specs.MonitorCall.{monitorOf, stateAs, pointsAs, answerAs, ZoneCall, StepCall};
 
 // The zone of a reading: `monitor::zone::zone_of`. Answers 0 and writes the zone; or answers the refusal and alters nothing.
@@ -16,8 +16,8 @@ pub extern "C" fn catrovindy_zone(reading: i32, centre: i32, sigma: u32, zone: &
     ensures { λ r. ⌜ ZoneCall reading centre sigma (now (zone .entry)) (now (zone .exit)) r ⌝ }
 {
     match zone_of(reading, centre, sigma) {
-        Zoned::Refused(r) => code(r),
-        Zoned::Zone(z) => {
+        ZoneAnswer::Refused(r) => code(r),
+        ZoneAnswer::Zone(z) => {
             zone[0] = z;
             0
         }
@@ -54,7 +54,7 @@ pub extern "C" fn catrovindy_step(
     zone: u32,
     answer: &mut [u32; 2],
 ) -> u64
-    ensures { λ r. ⌜ StepCall (listOf (now (slots .entry)) count) (monitorOf (now (state .entry)) (now (points .entry))) zone
+    ensures { λ r. ⌜ StepCall (slotList (now (slots .entry)) count) (monitorOf (now (state .entry)) (now (points .entry))) zone
         (now (state .entry)) (now (points .entry)) (now (answer .entry)) (now (state .exit)) (now (points .exit)) (now (answer .exit)) r ⌝ }
 {
     let kept = state[0];

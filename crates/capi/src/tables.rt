@@ -4,7 +4,7 @@ use crate::codes::code;
 use crate::codes::list_of;
 use rules::ZONES;
 use table::TableAnswer;
-ghost use Rattle.capi.specs.Codes.{listOf};
+ghost use Rattle.capi.specs.Codes.{slotList};
 ghost use Rattle.capi.specs.TableCall.{TableCall};
 
 // The run-length table: `table::run_length_table`. Answers 0 and writes N, left at the horizon and the cut mean's whole part and fraction
@@ -19,7 +19,7 @@ pub extern "C" fn catrovindy_table(
     survival: &mut [u64],
     figures: &mut [u64; 4],
 ) -> u64
-    ensures { λ r. ⌜ TableCall (listOf (now (slots .entry)) count) (now (weights .entry)) horizon (now (pmf .entry)) (now (survival .entry)) (now (figures .entry)) (now (pmf .exit)) (now (survival .exit)) (now (figures .exit)) r ⌝ }
+    ensures { λ r. ⌜ TableCall (slotList (now (slots .entry)) count) (now (weights .entry)) horizon (now (pmf .entry)) (now (survival .entry)) (now (figures .entry)) (now (pmf .exit)) (now (survival .exit)) (now (figures .exit)) r ⌝ }
 {
     let answer = table::run_length_table(list_of(*slots, count), *weights, horizon, pmf, survival);
     match answer {

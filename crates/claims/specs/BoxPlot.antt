@@ -18,7 +18,7 @@ use Rattle.plot.specs.declared.PlotItem.{PlotItem}
 use Rattle.plot.specs.declared.PlotRecord.{PlotRecord}
 use Rattle.plot.specs.declared.BoxPlotAnswer.{BoxPlotAnswer}
 use Rattle.plot.specs.Mean.{partsPerOne}
-use Rattle.plot.specs.Item.{Point, at, none, pointOf}
+use Rattle.plot.specs.Item.{Point, pointOf}
 use Rattle.plot.specs.Plot.{plotBy, boxPlotOf}
 use Rattle.plot.specs.Shown.{Shows, ShowsSpread, ShowsBrackets, spreadIn}
 use Rattle.plot.specs.PlotClaims.{shows-brackets, bounds-mean}

@@ -23,7 +23,8 @@ use Rattle.states.specs.States.{moves}
 use Rattle.states.specs.Automata.{stateAutomaton}
 use Rattle.states.specs.StatesLaws.{states-some}
 use Rattle.table.specs.declared.TableFigures.{TableFigures}
-use Rattle.table.specs.Table.{weightOf, stateCount, tableOf}
+use Rattle.runlength.specs.Sum.{at}
+use Rattle.table.specs.Table.{stateCount, tableOf}
 use Rattle.table.specs.AcceptedLaws.{count-some, table-mass}
 use Rattle.bracket.specs.declared.BracketAnswer.the-variants.{At, Between}
 use Rattle.bracket.specs.Bracket.{cdfOf, lowTest, highTest, bracketBy, bracketOf}
@@ -46,7 +47,7 @@ answer-contains test h (some l) (some u) c = go (eqb l u) (eqb→eq l u)
 
 module _ (l : RuleList) (w : List ℕ) (h : ℕ) (p s : List ℕ) (f : TableFigures) (a : AcceptedCall l w h p s f) where
   pub proper-chain : Proper (chainOf l w)
-  proper-chain = listed-proper zoneCount (stateCount (activeRules l)) (moves (stateAutomaton (activeRules l))) (weightOf w) (count-some (activeRules l)) (a .weights)
+  proper-chain = listed-proper zoneCount (stateCount (activeRules l)) (moves (stateAutomaton (activeRules l))) (at w) (count-some (activeRules l)) (a .weights)
 
   pub chances-length : length (chancesOf l w h p s) ≡ h
   chances-length = ap length (a .chances-are) ∙ length-tab h (λ k. pmf (chainOf l w) (suc k))

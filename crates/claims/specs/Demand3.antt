@@ -10,27 +10,28 @@ use Rattle.rules.specs.declared.RuleList.{RuleList}
 use Rattle.rules.specs.declared.Checked.the-variants.{Accepted}
 use Rattle.rules.specs.Bounds.{zoneCount}
 use Rattle.rules.specs.Check.{activeRules, checkOf}
-use Rattle.runlength.specs.Sum.{only}
+use Rattle.runlength.specs.Sum.{only, at}
 use Rattle.runlength.specs.SequenceLaws.{sequences-cong}
 use Rattle.runlength.specs.Automaton.{product}
 use Rattle.runlength.specs.ListedLaws.{listed-cdf-lower, listed-cdf-strict-upper, listed-mean-lower, listed-mean-upper}
 use Rattle.runlength.specs.PercentileLaws.{never-percentile}
 use Rattle.monitor.specs.Step.{freshMonitor}
 use Rattle.monitor.specs.ReferenceChart.{chartAnswers}
-use Rattle.monitor.specs.Calls.{monitorAnswers, refusalNumber, EachAnswer, ZonesExist}
+use Rattle.monitor.specs.Calls.{monitorAnswers, refusalNumber, EachAnswer}
+use Rattle.runlength.specs.Sequence.{AllBelow}
 use Rattle.monitor.specs.Agreement.{agreement, no-call-gets-5, no-refused-call}
 use Rattle.states.specs.States.{moves}
 use Rattle.states.specs.Automata.{stateAutomaton}
-use Rattle.rows.specs.Limits.{maxHorizon}
+use Rattle.runlength.specs.Scale.{maxHorizon}
 use Rattle.table.specs.declared.TableFigures.{TableFigures}
 use Rattle.table.specs.declared.TableAnswer.{TableAnswer}
-use Rattle.table.specs.Table.{weightOf, stateCount, tableOf}
+use Rattle.table.specs.Table.{stateCount, tableOf}
 use Rattle.table.specs.AcceptedLaws.{count-some, table-mass}
 use Rattle.bracket.specs.declared.BracketAnswer.the-variants.{At, Between, Open, Beyond}
 use Rattle.bracket.specs.Bracket.{cdfOf, bracketOf}
 use Rattle.claims.specs.Exact.{freeAnswers, saysSignal, exactSum, exactMean, monitorSum, reached, ContainsPercentile}
 use Rattle.claims.specs.ExactLaws.{sum-of-chain, mean-of-chain}
-use Rattle.claims.specs.MonitorLaws.{zones-exist, monitor-free}
+use Rattle.claims.specs.MonitorLaws.{monitor-free}
 use Rattle.claims.specs.TableCall.{chancesOf, meanOf, AcceptedCall}
 use Rattle.claims.specs.TableCallLaws.{accepted-call}
 use Rattle.claims.specs.BracketCallLaws.{chances-cdf, left-at, call-contains}
@@ -49,11 +50,11 @@ module _ (l : RuleList) (accepted : checkOf l ≡ Accepted) where
 
   module _ (n : ℕ) (n-max : n ≤ maxHorizon) where
     -- A call list with a sequence of n zones has no refused call.
-    pub monitor-takes : (q : List ℕ) → length q ≡ n → ZonesExist q → EachAnswer (λ a. refusalNumber a ≡ 0) (monitorAnswers l freshMonitor q)
+    pub monitor-takes : (q : List ℕ) → length q ≡ n → AllBelow zoneCount q → EachAnswer (λ a. refusalNumber a ≡ 0) (monitorAnswers l freshMonitor q)
     monitor-takes q k i = no-refused-call l accepted q i (omega arith)
 
     -- The monitor answers it as the plain chart does that refuses none, so it signals on the same sequences.
-    pub monitor-signals : (q : List ℕ) → length q ≡ n → ZonesExist q → monitorAnswers l freshMonitor q ≡ freeAnswers (activeRules l) [] q
+    pub monitor-signals : (q : List ℕ) → length q ≡ n → AllBelow zoneCount q → monitorAnswers l freshMonitor q ≡ freeAnswers (activeRules l) [] q
     monitor-signals q k i = monitor-free l accepted q i (omega arith)
 
     -- A fresh monitor is fed every zone sequence of length n, each call getting what the last one returned; the products of those that have
@@ -61,7 +62,7 @@ module _ (l : RuleList) (accepted : checkOf l ≡ Accepted) where
     pub monitor-sum : (w : List ℕ) → monitorSum l w n ≡ exactSum (activeRules l) w n
     unfolding monitorSum exactSum
     monitor-sum w =
-        sequences-cong zoneCount n (λ q k i. ap (λ a. only (saysSignal a) (product (weightOf w) q)) (monitor-signals q k (zones-exist q i)))
+        sequences-cong zoneCount n (λ q k i. ap (λ a. only (saysSignal a) (product (at w) q)) (monitor-signals q k i))
 
 -- ---- the table and the bracket, for every accepted call of the table operation
 
@@ -77,8 +78,8 @@ module _ (l : RuleList) (w : List ℕ) (h : ℕ) (p s : List ℕ) (f : TableFigu
         let N = stateCount (activeRules l) in
         let m = moves (stateAutomaton (activeRules l)) in
         rw (sum-of-chain (activeRules l) w (call .bounds) (call .few) n, chances-cdf l w h p s f call n n-max, call .states-are) (
-          listed-cdf-lower zoneCount N m (weightOf w) (count-some (activeRules l)) (call .weights) n,
-          listed-cdf-strict-upper zoneCount N m (weightOf w) (count-some (activeRules l)) (call .weights) n n-min,
+          listed-cdf-lower zoneCount N m (at w) (count-some (activeRules l)) (call .weights) n,
+          listed-cdf-strict-upper zoneCount N m (at w) (count-some (activeRules l)) (call .weights) n n-min,
         )
 
     -- The same of what a fresh monitor signals on, every zone sequence of length n fed to it.
@@ -106,8 +107,8 @@ module _ (l : RuleList) (w : List ℕ) (h : ℕ) (p s : List ℕ) (f : TableFigu
       let N = stateCount (activeRules l) in
       let m = moves (stateAutomaton (activeRules l)) in
       rw (mean-of-chain (activeRules l) w (call .bounds) (call .few) h, call .mean-is, call .states-are) (
-        listed-mean-lower zoneCount N m (weightOf w) (count-some (activeRules l)) (call .weights) h,
-        listed-mean-upper zoneCount N m (weightOf w) (count-some (activeRules l)) (call .weights) h,
+        listed-mean-lower zoneCount N m (at w) (count-some (activeRules l)) (call .weights) h,
+        listed-mean-upper zoneCount N m (at w) (count-some (activeRules l)) (call .weights) h,
       )
 
 -- ---- where no n reaches the percentile, it counts as beyond every number

@@ -6,13 +6,12 @@ use lib.Dec.{leb}
 use Rattle.rules.specs.declared.Rule.{Rule}
 use Rattle.rules.specs.declared.RuleList.{RuleList}
 use Rattle.rules.specs.Bounds.{zoneCount}
-use Rattle.runlength.specs.Sum.{only, sumSequences}
+use Rattle.runlength.specs.Sum.{only, sumSequences, at}
 use Rattle.runlength.specs.Automaton.{product}
 use Rattle.runlength.specs.Percentile.{Percentile}
 use Rattle.monitor.specs.Step.{freshMonitor}
 use Rattle.monitor.specs.ReferenceChart.{Answer, refused, quiet, signal, rowMask, chartBy}
 use Rattle.monitor.specs.Calls.{monitorAnswers}
-use Rattle.table.specs.Table.{weightOf}
 use Rattle.bracket.specs.declared.BracketAnswer.{BracketAnswer}
 use Rattle.bracket.specs.declared.BracketAnswer.the-variants.{Refused, At, Between, Open, Beyond}
 
@@ -41,17 +40,17 @@ firstSignal (a ∷ rest) = cond (isSignal a) 1 (suc (firstSignal rest))
 -- The exact sum at n, over 2 ^ (30 * n): each sequence of n zones on which the plain chart says signal at least once, by the product of its
 -- weights.
 unfoldable pub exactSum : List Rule → List ℕ → ℕ → ℕ
-exactSum rs w n = sumSequences zoneCount n (λ q. only (saysSignal (freeAnswers rs [] q)) (product (weightOf w) q))
+exactSum rs w n = sumSequences zoneCount n (λ q. only (saysSignal (freeAnswers rs [] q)) (product (at w) q))
 
 -- The mean of the run length cut at h, over 2 ^ (30 * h): each sequence of h zones, its product times the number of its first signalling
 -- point, or times h where there is none.
 unfoldable pub exactMean : List Rule → List ℕ → ℕ → ℕ
-exactMean rs w h = sumSequences zoneCount h (λ q. product (weightOf w) q * firstSignal (freeAnswers rs [] q))
+exactMean rs w h = sumSequences zoneCount h (λ q. product (at w) q * firstSignal (freeAnswers rs [] q))
 
 -- Every sequence of n zones is fed to a fresh monitor, each call getting what the last one returned; the products of those that have
 -- signalled are added up.
 unfoldable pub monitorSum : RuleList → List ℕ → ℕ → ℕ
-monitorSum l w n = sumSequences zoneCount n (λ q. only (saysSignal (monitorAnswers l freshMonitor q)) (product (weightOf w) q))
+monitorSum l w n = sumSequences zoneCount n (λ q. only (saysSignal (monitorAnswers l freshMonitor q)) (product (at w) q))
 
 -- The exact sum at n is at least p hundredths. The true percentile is the n with `Percentile (reached rs w p) n`, if there is one.
 unfoldable pub reached : List Rule → List ℕ → ℕ → ℕ → Bool

@@ -7,7 +7,7 @@ use lib.Dec.{eqb}
 use Rattle.rules.specs.declared.Rule.{Rule}
 use Rattle.rules.specs.Bounds.{zoneCount, maxStates}
 use Rattle.rules.specs.InBounds.{AllInBounds}
-use Rattle.runlength.specs.Sum.{only}
+use Rattle.runlength.specs.Sum.{only, at}
 use Rattle.runlength.specs.SequenceLaws.{sequences-cong-all}
 use Rattle.runlength.specs.Automaton.{Automaton, product, signals, runLength, exactCdf, exactRestrictedMean}
 use Rattle.runlength.specs.Listed.{listedAutomaton}
@@ -17,7 +17,7 @@ use Rattle.monitor.specs.ReferenceChart.{rowMask}
 use Rattle.states.specs.States.{moves}
 use Rattle.states.specs.Automata.{stateAutomaton, referenceAutomaton}
 use Rattle.states.specs.AutomataLaws.{explored-reference}
-use Rattle.table.specs.Table.{weightOf, stateCount}
+use Rattle.table.specs.Table.{stateCount}
 use Rattle.claims.specs.Exact.{freeAnswers, saysSignal, firstSignal, exactSum, exactMean}
 
 module _ (rs : List Rule) where
@@ -44,13 +44,13 @@ module _ (rs : List Rule) where
       each false e f = rw e
 
   module _ (w : List ℕ) where
-    pub sum-of-chart : (n : ℕ) → exactSum rs w n ≡ exactCdf (referenceAutomaton rs) (weightOf w) n
+    pub sum-of-chart : (n : ℕ) → exactSum rs w n ≡ exactCdf (referenceAutomaton rs) (at w) n
     unfolding exactSum exactCdf
-    sum-of-chart n = sequences-cong-all zoneCount n (λ q. ap (λ b. only b (product (weightOf w) q)) (free-signals q []))
+    sum-of-chart n = sequences-cong-all zoneCount n (λ q. ap (λ b. only b (product (at w) q)) (free-signals q []))
 
-    pub mean-of-chart : (h : ℕ) → exactMean rs w h ≡ exactRestrictedMean (referenceAutomaton rs) (weightOf w) h
+    pub mean-of-chart : (h : ℕ) → exactMean rs w h ≡ exactRestrictedMean (referenceAutomaton rs) (at w) h
     unfolding exactMean exactRestrictedMean
-    mean-of-chart h = sequences-cong-all zoneCount h (λ q. ap (λ k. product (weightOf w) q * k) (free-runLength q []))
+    mean-of-chart h = sequences-cong-all zoneCount h (λ q. ap (λ k. product (at w) q * k) (free-runLength q []))
 
     -- where the states are not too many, they are those of the chain that the table is made of
     module _ (bounds : AllInBounds rs) (few : stateCount rs ≤ maxStates) where
@@ -61,8 +61,8 @@ module _ (rs : List Rule) where
       unfolding stateCount
       same-future = explored-reference rs bounds few
 
-      pub sum-of-chain : (n : ℕ) → exactSum rs w n ≡ exactCdf (listedAutomaton zoneCount (stateCount rs) (moves (stateAutomaton rs))) (weightOf w) n
-      sum-of-chain n = sum-of-chart n ∙ future-cdf (referenceAutomaton rs) chain same-future (weightOf w) n
+      pub sum-of-chain : (n : ℕ) → exactSum rs w n ≡ exactCdf (listedAutomaton zoneCount (stateCount rs) (moves (stateAutomaton rs))) (at w) n
+      sum-of-chain n = sum-of-chart n ∙ future-cdf (referenceAutomaton rs) chain same-future (at w) n
 
-      pub mean-of-chain : (h : ℕ) → exactMean rs w h ≡ exactRestrictedMean (listedAutomaton zoneCount (stateCount rs) (moves (stateAutomaton rs))) (weightOf w) h
-      mean-of-chain h = mean-of-chart h ∙ future-mean (referenceAutomaton rs) chain same-future (weightOf w) h
+      pub mean-of-chain : (h : ℕ) → exactMean rs w h ≡ exactRestrictedMean (listedAutomaton zoneCount (stateCount rs) (moves (stateAutomaton rs))) (at w) h
+      mean-of-chain h = mean-of-chart h ∙ future-mean (referenceAutomaton rs) chain same-future (at w) h

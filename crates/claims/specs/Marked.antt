@@ -10,8 +10,8 @@ use Rattle.rules.specs.Mask.{maskOf}
 use Rattle.runlength.specs.Sum.{sum, tab, front}
 use Rattle.runlength.specs.Chain.{inflow, signalled, units, pmf, survival, restrictedMean}
 use Rattle.runlength.specs.Percentile.{least}
-use Rattle.monitor.specs.declared.zone.Zoned.{Zoned}
-use Rattle.monitor.specs.declared.zone.Zoned.the-variants.{Zone}
+use Rattle.monitor.specs.declared.zone.ZoneAnswer.{ZoneAnswer}
+use Rattle.monitor.specs.declared.zone.ZoneAnswer.the-variants.{Zone}
 use Rattle.monitor.specs.Zone.{zoneOf}
 use Rattle.monitor.specs.Window.{hitsUpTo, live}
 use Rattle.monitor.specs.State.{holding, nextState, moveOf}
@@ -24,7 +24,7 @@ use Rattle.bracket.specs.Bracket.{cdfOf, highTest, lowTest, bracketBy, bracketO
 
 -- what an example is of
 pub data Figure : Type 0 where
-  zone : Zoned → Figure
+  zone : ZoneAnswer → Figure
   number : ℕ → Figure
   chances : List ℕ → Figure
   left : List ℕ → Figure

@@ -9,28 +9,23 @@ use lib.ListN.{length}
 use Rattle.rules.specs.declared.Rule.{Rule}
 use Rattle.rules.specs.declared.RuleList.{RuleList}
 use Rattle.rules.specs.declared.Checked.the-variants.{Accepted}
-use Rattle.rules.specs.Bounds.{zoneCount}
+use Rattle.rules.specs.Bounds.{zoneCount, maxNumber}
 use Rattle.rules.specs.Check.{activeRules, checkOf}
-use Rattle.runlength.specs.Sequence.{Zoned}
-use Rattle.monitor.specs.Step.{maxCount, freshMonitor}
+use Rattle.runlength.specs.Sequence.{AllBelow}
+use Rattle.monitor.specs.Step.{freshMonitor}
 use Rattle.monitor.specs.ReferenceChart.{rowMask, chartBy, chartStep, chartAnswers}
-use Rattle.monitor.specs.Calls.{monitorAnswers, refusalNumber, EachAnswer, ZonesExist}
+use Rattle.monitor.specs.Calls.{monitorAnswers, refusalNumber, EachAnswer}
+use Rattle.runlength.specs.Sequence.{AllBelow}
 use Rattle.monitor.specs.Agreement.{agreement, no-refused-call}
 use Rattle.claims.specs.Exact.{freeAnswers}
-
--- the two ways to say that a sequence's zones exist
-pub zones-exist : (q : List ℕ) → Zoned zoneCount q → ZonesExist q
-unfolding Zoned ZonesExist
-zones-exist [] i = tt
-zones-exist (z ∷ q) i = (i .0, zones-exist q (i .1))
 
 -- a call that is not refused is answered as the chart that refuses none does
 taken-free : (rs : List Rule) (row : List ℕ) (z : ℕ) → refusalNumber (chartStep rs row z .answer) ≡ 0
     → chartStep rs row z ≡ chartBy (rowMask rs (z ∷ row)) (z ∷ row)
 unfolding chartStep
-taken-free rs row z = each (ltb z zoneCount) (ltb (length row) maxCount) refl refl
+taken-free rs row z = each (ltb z zoneCount) (ltb (length row) maxNumber) refl refl
   where
-    each : (b c : Bool) → ltb z zoneCount ≡ b → ltb (length row) maxCount ≡ c → refusalNumber (chartStep rs row z .answer) ≡ 0
+    each : (b c : Bool) → ltb z zoneCount ≡ b → ltb (length row) maxNumber ≡ c → refusalNumber (chartStep rs row z .answer) ≡ 0
         → chartStep rs row z ≡ chartBy (rowMask rs (z ∷ row)) (z ∷ row)
     each true true d e h = rw (d, e)
     each true false d e h = absurd (omega (arith, rw (d, e) at h))
@@ -47,7 +42,7 @@ unrefused-free rs (z ∷ zs) row h =
     rw (← t) (ap (λ rest. chartStep rs row z .answer ∷ rest) r)
 
 -- a list of at most 2^32 - 1 calls whose zones all exist is answered by the monitor as by the chart that refuses none
-pub monitor-free : (l : RuleList) → checkOf l ≡ Accepted → (zs : List ℕ) → ZonesExist zs → length zs ≤ maxCount
+pub monitor-free : (l : RuleList) → checkOf l ≡ Accepted → (zs : List ℕ) → AllBelow zoneCount zs → length zs ≤ maxNumber
     → monitorAnswers l freshMonitor zs ≡ freeAnswers (activeRules l) [] zs
 monitor-free l a zs i h =
     let u : EachAnswer (λ x. refusalNumber x ≡ 0) (chartAnswers (activeRules l) [] zs) = rw (agreement l a zs) at (no-refused-call l a zs i h) in

@@ -8,12 +8,11 @@ use Rattle.rules.specs.declared.Checked.the-variants.{Accepted}
 use Rattle.rules.specs.Bounds.{zoneCount, maxStates}
 use Rattle.rules.specs.InBounds.{AllInBounds}
 use Rattle.rules.specs.Check.{activeRules, checkOf}
-use Rattle.runlength.specs.Sum.{sum, tab}
+use Rattle.runlength.specs.Sum.{sum, tab, at}
 use Rattle.runlength.specs.Chain.{Chain, pmf, survival, restrictedMean}
-use Rattle.rows.specs.Limits.{maxHorizon}
-use Rattle.table.specs.Limits.{minHorizon}
+use Rattle.runlength.specs.Scale.{maxHorizon, minHorizon}
 use Rattle.table.specs.declared.TableFigures.{TableFigures}
-use Rattle.table.specs.Table.{weightOf, stateCount, tableChain, tableCheck, tableOf}
+use Rattle.table.specs.Table.{stateCount, tableChain, tableCheck, tableOf}
 
 -- exactly the h chances as the call wrote them
 abbrev pub chancesOf : RuleList → List ℕ → ℕ → List ℕ → List ℕ → List ℕ
@@ -31,7 +30,7 @@ chainOf l w = tableChain (activeRules l) w
 pub record AcceptedCall (l : RuleList) (w : List ℕ) (h : ℕ) (p s : List ℕ) (f : TableFigures) : Type 0 where
   pub rules : checkOf l ≡ Accepted
   pub bounds : AllInBounds (activeRules l)
-  pub weights : sum zoneCount (weightOf w) ≡ 2 ^ 30
+  pub weights : sum zoneCount (at w) ≡ 2 ^ 30
   pub low : minHorizon ≤ h
   pub high : h ≤ maxHorizon
   pub few : stateCount (activeRules l) ≤ maxStates

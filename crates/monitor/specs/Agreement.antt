@@ -12,15 +12,17 @@ use lib.ListN.{length, getD}
 use Rattle.rules.specs.declared.Rule.{Rule}
 use Rattle.rules.specs.declared.RuleList.{RuleList}
 use Rattle.rules.specs.declared.Checked.the-variants.{Accepted}
-use Rattle.rules.specs.Bounds.{zoneCount}
+use Rattle.rules.specs.Bounds.{zoneCount, maxNumber}
 use Rattle.rules.specs.Check.{noRule, activeRules, checkOf}
 use Rattle.rules.specs.CheckLaws.{accepted}
 use Rattle.rules.specs.InBounds.{AllInBounds}
 use Rattle.rules.specs.Mask.{bit, maskOf}
+use Rattle.rules.specs.Refusal.{badState, badZone, badCount}
 use Rattle.monitor.specs.declared.Monitor.{Monitor}
-use Rattle.monitor.specs.Step.{maxCount, freshMonitor, acceptedStep, stepOf}
+use Rattle.monitor.specs.Step.{freshMonitor, acceptedStep, stepOf}
 use Rattle.monitor.specs.ReferenceChart.{Answer, refused, quiet, signal, ruleHolds, rowMask, charted, chartBy, chartStep, chartAnswers}
-use Rattle.monitor.specs.Calls.{monitorAnswers, refusalNumber, EachAnswer, ZonesExist}
+use Rattle.monitor.specs.Calls.{monitorAnswers, refusalNumber, EachAnswer}
+use Rattle.runlength.specs.Sequence.{AllBelow}
 use Rattle.monitor.specs.CallLaws.{monitorOfRow, fresh-of-row, one-call, chart-quiet, chart-signal}
 use Rattle.monitor.specs.RowLaws.{empty-row-mask}
 
@@ -82,44 +84,44 @@ mask-names-rules rs row i h = mask-digit (map (ruleHolds row) rs) i ∙ ap bit (
 -- ---- which calls are refused
 
 -- the chart refuses by 6 and 7 alone
-not-five : (rs : List Rule) (row : List ℕ) (z : ℕ) → refusalNumber (chartStep rs row z .answer) ≡ 5 → ⊥
+not-five : (rs : List Rule) (row : List ℕ) (z : ℕ) → refusalNumber (chartStep rs row z .answer) ≡ badState .number → ⊥
 unfolding chartStep
-not-five rs row z = go (ltb z zoneCount) (ltb (length row) 4294967295) (eqb (rowMask rs (z ∷ row)) 0)
+not-five rs row z = go (ltb z zoneCount) (ltb (length row) maxNumber) (eqb (rowMask rs (z ∷ row)) 0)
   where
-    go : (zone count quiet-here : Bool) → refusalNumber (cond zone (cond count (cond quiet-here (charted (quiet (length (z ∷ row))) (z ∷ row)) (charted (signal (length (z ∷ row)) (rowMask rs (z ∷ row))) [])) (charted (refused 7) row)) (charted (refused 6) row) .answer) ≡ 5 → ⊥
+    go : (zone count quiet-here : Bool) → refusalNumber (cond zone (cond count (cond quiet-here (charted (quiet (length (z ∷ row))) (z ∷ row)) (charted (signal (length (z ∷ row)) (rowMask rs (z ∷ row))) [])) (charted (refused (badCount .number)) row)) (charted (refused (badZone .number)) row) .answer) ≡ badState .number → ⊥
     go true true true e = omega arith
     go true true false e = omega arith
     go true false t e = omega arith
     go false s t e = omega arith
 
-never-five : (rs : List Rule) (row zs : List ℕ) → EachAnswer (λ a. refusalNumber a ≡ 5 → ⊥) (chartAnswers rs row zs)
+never-five : (rs : List Rule) (row zs : List ℕ) → EachAnswer (λ a. refusalNumber a ≡ badState .number → ⊥) (chartAnswers rs row zs)
 unfolding chartAnswers EachAnswer
 never-five rs row [] = tt
 never-five rs row (z ∷ zs) = (not-five rs row z, never-five rs (chartStep rs row z .row) zs)
 
 -- No call in such a list gets 5: the state that the last call returned can always be given again.
-pub no-call-gets-5 : (l : RuleList) → checkOf l ≡ Accepted → (zs : List ℕ) → EachAnswer (λ a. refusalNumber a ≡ 5 → ⊥) (monitorAnswers l freshMonitor zs)
+pub no-call-gets-5 : (l : RuleList) → checkOf l ≡ Accepted → (zs : List ℕ) → EachAnswer (λ a. refusalNumber a ≡ badState .number → ⊥) (monitorAnswers l freshMonitor zs)
 no-call-gets-5 l a zs = rw (agreement l a zs) (never-five (activeRules l) [] zs)
 
 -- a zone that exists on a row that is not full is taken, and the row grows by one at most
-record Taken (row : List ℕ) (a : Answer) (after : List ℕ) : Type 0 where
+record CallTaken (row : List ℕ) (a : Answer) (after : List ℕ) : Type 0 where
   accepted : refusalNumber a ≡ 0
   grows : length after ≤ suc (length row)
 
-taken : (rs : List Rule) (row : List ℕ) (z : ℕ) → z < zoneCount → length row < maxCount → Taken row (chartStep rs row z .answer) (chartStep rs row z .row)
-taken rs row z zone q =
+call-taken : (rs : List Rule) (row : List ℕ) (z : ℕ) → z < zoneCount → length row < maxNumber → CallTaken row (chartStep rs row z .answer) (chartStep rs row z .row)
+call-taken rs row z zone q =
     ⊎-elim
     (λ (n : rowMask rs (z ∷ row) ≡ 0). rw (chart-quiet rs row z zone q n) record { accepted = refl; grows = omega arith })
     (λ (n : 0 < rowMask rs (z ∷ row)). rw (chart-signal rs row z zone q (λ y. omega arith)) record { accepted = refl; grows = omega arith })
     (eq-zero-or-pos (rowMask rs (z ∷ row)))
 
-all-taken : (rs : List Rule) (row zs : List ℕ) → ZonesExist zs → length row + length zs ≤ maxCount → EachAnswer (λ a. refusalNumber a ≡ 0) (chartAnswers rs row zs)
-unfolding chartAnswers EachAnswer ZonesExist
+all-taken : (rs : List Rule) (row zs : List ℕ) → AllBelow zoneCount zs → length row + length zs ≤ maxNumber → EachAnswer (λ a. refusalNumber a ≡ 0) (chartAnswers rs row zs)
+unfolding chartAnswers EachAnswer AllBelow
 all-taken rs row [] p q = tt
 all-taken rs row (z ∷ zs) p q =
-    let t = taken rs row z (p .0) (omega arith) in
+    let t = call-taken rs row z (p .0) (omega arith) in
     (t .accepted, all-taken rs (chartStep rs row z .row) zs (p .1) (omega (arith, t .grows)))
 
 -- A list of at most 2^32 - 1 calls whose zones all exist has no refused call.
-pub no-refused-call : (l : RuleList) → checkOf l ≡ Accepted → (zs : List ℕ) → ZonesExist zs → length zs ≤ 4294967295 → EachAnswer (λ a. refusalNumber a ≡ 0) (monitorAnswers l freshMonitor zs)
+pub no-refused-call : (l : RuleList) → checkOf l ≡ Accepted → (zs : List ℕ) → AllBelow zoneCount zs → length zs ≤ maxNumber → EachAnswer (λ a. refusalNumber a ≡ 0) (monitorAnswers l freshMonitor zs)
 no-refused-call l a zs p q = rw (agreement l a zs) (all-taken (activeRules l) [] zs p (omega arith))

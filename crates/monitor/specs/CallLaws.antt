@@ -10,13 +10,14 @@ use native.Mathlib.Omega.{arith}
 use lib.ListN.{length}
 use borrow.Author.Tests.{lt-ltb, le-ltb, eq-eqb, ne-eqb}
 use Rattle.rules.specs.declared.Rule.{Rule}
-use Rattle.rules.specs.Bounds.{zoneCount}
+use Rattle.rules.specs.Bounds.{zoneCount, maxNumber}
 use Rattle.rules.specs.InBounds.{AllInBounds}
+use Rattle.rules.specs.Refusal.{badZone, badCount}
 use Rattle.monitor.specs.declared.Monitor.{Monitor}
 use Rattle.monitor.specs.declared.Step.{Step}
 use Rattle.monitor.specs.WindowLaws.{le-or-lt}
 use Rattle.monitor.specs.State.{validState}
-use Rattle.monitor.specs.Step.{maxCount, monitorAt, freshMonitor, acceptedStep}
+use Rattle.monitor.specs.Step.{monitorAt, freshMonitor, acceptedStep}
 use Rattle.monitor.specs.StepLaws.{step-bad-zone, step-bad-count, step-signal, step-quiet}
 use Rattle.monitor.specs.ReferenceChart.{refused, quiet, signal, rowMask, Charted, charted, chartStep}
 use Rattle.monitor.specs.Calls.{answerOf, monitorAfter}
@@ -25,22 +26,22 @@ use Rattle.monitor.specs.RowLaws.{stateOfRow, valid-of-row, mask-of-row,
 -- ---- the chart's four cases
 
 module _ (rs : List Rule) (row : List ℕ) (z : ℕ) where
-  pub chart-bad-zone : zoneCount ≤ z → chartStep rs row z ≡ charted (refused 6) row
+  pub chart-bad-zone : zoneCount ≤ z → chartStep rs row z ≡ charted (refused (badZone .number)) row
   unfolding chartStep
   chart-bad-zone h = rw (le-ltb z zoneCount h)
 
   module _ (zone : z < zoneCount) where
-    pub chart-bad-count : maxCount ≤ length row → chartStep rs row z ≡ charted (refused 7) row
+    pub chart-bad-count : maxNumber ≤ length row → chartStep rs row z ≡ charted (refused (badCount .number)) row
     unfolding chartStep
-    chart-bad-count q = rw (lt-ltb z zoneCount zone, le-ltb (length row) maxCount q)
+    chart-bad-count q = rw (lt-ltb z zoneCount zone, le-ltb (length row) maxNumber q)
 
-    pub chart-quiet : length row < maxCount → rowMask rs (z ∷ row) ≡ 0 → chartStep rs row z ≡ charted (quiet (suc (length row))) (z ∷ row)
+    pub chart-quiet : length row < maxNumber → rowMask rs (z ∷ row) ≡ 0 → chartStep rs row z ≡ charted (quiet (suc (length row))) (z ∷ row)
     unfolding chartStep
-    chart-quiet q n = rw (lt-ltb z zoneCount zone, lt-ltb (length row) maxCount q, eq-eqb (rowMask rs (z ∷ row)) 0 n)
+    chart-quiet q n = rw (lt-ltb z zoneCount zone, lt-ltb (length row) maxNumber q, eq-eqb (rowMask rs (z ∷ row)) 0 n)
 
-    pub chart-signal : length row < maxCount → (rowMask rs (z ∷ row) ≡ 0 → ⊥) → chartStep rs row z ≡ charted (signal (suc (length row)) (rowMask rs (z ∷ row))) []
+    pub chart-signal : length row < maxNumber → (rowMask rs (z ∷ row) ≡ 0 → ⊥) → chartStep rs row z ≡ charted (signal (suc (length row)) (rowMask rs (z ∷ row))) []
     unfolding chartStep
-    chart-signal q n = rw (lt-ltb z zoneCount zone, lt-ltb (length row) maxCount q, ne-eqb (rowMask rs (z ∷ row)) 0 n)
+    chart-signal q n = rw (lt-ltb z zoneCount zone, lt-ltb (length row) maxNumber q, ne-eqb (rowMask rs (z ∷ row)) 0 n)
 
 -- ---- the monitor of a row
 
@@ -67,20 +68,20 @@ module _ (rs : List Rule) (bounds : AllInBounds rs) (row : List ℕ) (e : rowMas
   no-zone h = rw (step-bad-zone rs (monitorOfRow rs row) z h, chart-bad-zone rs row z h) record { answer = refl; after = refl; quiet-row = e }
 
   module _ (zone : z < zoneCount) where
-    full : maxCount ≤ length row → Agrees
+    full : maxNumber ≤ length row → Agrees
     full q = rw (step-bad-count rs (monitorOfRow rs row) z zone valid q, chart-bad-count rs row z zone q) record { answer = refl; after = refl; quiet-row = e }
 
-    silent : length row < maxCount → rowMask rs (z ∷ row) ≡ 0 → Agrees
+    silent : length row < maxNumber → rowMask rs (z ∷ row) ≡ 0 → Agrees
     silent q n =
         rw (step-quiet rs (monitorOfRow rs row) z zone valid q (mask-of-row rs bounds row z ∙ n), chart-quiet rs row z zone q n)
         record { answer = ap quiet (add-one (length row)); after = rw (next-of-row rs bounds row z, add-one (length row)); quiet-row = n }
 
-    loud : length row < maxCount → (rowMask rs (z ∷ row) ≡ 0 → ⊥) → Agrees
+    loud : length row < maxNumber → (rowMask rs (z ∷ row) ≡ 0 → ⊥) → Agrees
     loud q n =
         rw (step-signal rs (monitorOfRow rs row) z zone valid q (λ y. n (sym (mask-of-row rs bounds row z) ∙ y)), chart-signal rs row z zone q n)
         record { answer = rw (mask-of-row rs bounds row z, add-one (length row)); after = fresh-of-row rs; quiet-row = empty-row-mask rs bounds }
 
-    taken : length row < maxCount → Agrees
+    taken : length row < maxNumber → Agrees
     taken q =
         ⊎-elim (λ (n : rowMask rs (z ∷ row) ≡ 0). silent q n) (λ (n : 0 < rowMask rs (z ∷ row)). loud q (λ y. omega arith))
         (eq-zero-or-pos (rowMask rs (z ∷ row)))
@@ -88,5 +89,5 @@ module _ (rs : List Rule) (bounds : AllInBounds rs) (row : List ℕ) (e : rowMas
   pub one-call : Agrees
   one-call =
       ⊎-elim no-zone
-      (λ (zone : z < zoneCount). ⊎-elim (λ (q : maxCount ≤ length row). full zone q) (λ (q : length row < maxCount). taken zone q) (le-or-lt maxCount (length row)))
+      (λ (zone : z < zoneCount). ⊎-elim (λ (q : maxNumber ≤ length row). full zone q) (λ (q : length row < maxNumber). taken zone q) (le-or-lt maxNumber (length row)))
       (le-or-lt zoneCount z)

@@ -1,9 +1,8 @@
 -- A list of monitor calls with one rule list, each getting the state and count of the last accepted one. Definitions.
-use Prim.Native.Nat.{ℕ, _<_}
+use Prim.Native.Nat.{ℕ}
 use mathlib.Core.List.{List, [], _∷_}
-use Rattle.rules.specs.declared.Refusal.{Refusal}
+use Rattle.rules.specs.declared.refusal.Refusal.{Refusal}
 use Rattle.rules.specs.declared.RuleList.{RuleList}
-use Rattle.rules.specs.Bounds.{zoneCount}
 use Rattle.monitor.specs.declared.Monitor.{Monitor}
 use Rattle.monitor.specs.declared.Step.{Step}
 use Rattle.monitor.specs.declared.Step.the-variants.{Refused, Quiet, Signal}
@@ -37,8 +36,3 @@ refusalNumber (signal count mask) = 0
 unfoldable pub EachAnswer : (Answer → Type 0) → List Answer → Type 0
 EachAnswer P [] = Unit {0}
 EachAnswer P (a ∷ rest) = P a × EachAnswer P rest
-
--- each zone of a list exists
-unfoldable pub ZonesExist : List ℕ → Type 0
-ZonesExist [] = Unit {0}
-ZonesExist (z ∷ zs) = (z < zoneCount) × ZonesExist zs

@@ -5,7 +5,8 @@ use mathlib.Core.List.{List, [], _∷_, map}
 use lib.Dec.{leb, ltb, eqb}
 use lib.ListN.{length, take}
 use Rattle.rules.specs.declared.Rule.{Rule}
-use Rattle.rules.specs.Bounds.{zoneCount}
+use Rattle.rules.specs.Bounds.{zoneCount, maxNumber}
+use Rattle.rules.specs.Refusal.{badZone, badCount}
 use Rattle.rules.specs.ZoneSet.{inZoneSet}
 use Rattle.rules.specs.Mask.{maskOf}
 
@@ -40,12 +41,12 @@ charted a row = record { answer = a; row = row }
 abbrev pub chartBy : ℕ → List ℕ → Charted
 chartBy mask row = cond (eqb mask 0) (charted (quiet (length row)) row) (charted (signal (length row) mask) [])
 
--- one call: 6 for a zone that does not exist, 7 where the row's length is 4,294,967,295; a refused call leaves the row as it was
+-- one call: 6 for a zone that does not exist, 7 where the row's length is the largest number; a refused call leaves the row as it was
 unfoldable pub chartStep : List Rule → List ℕ → ℕ → Charted
 chartStep rs row z =
     cond (ltb z zoneCount)
-    (cond (ltb (length row) 4294967295) (chartBy (rowMask rs (z ∷ row)) (z ∷ row)) (charted (refused 7) row))
-    (charted (refused 6) row)
+    (cond (ltb (length row) maxNumber) (chartBy (rowMask rs (z ∷ row)) (z ∷ row)) (charted (refused (badCount .number)) row))
+    (charted (refused (badZone .number)) row)
 
 -- the answers to a list of calls, from a row
 unfoldable pub chartAnswers : List Rule → List ℕ → List ℕ → List Answer

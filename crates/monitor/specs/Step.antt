@@ -7,7 +7,7 @@ use Rattle.rules.specs.declared.Rule.{Rule}
 use Rattle.rules.specs.declared.RuleList.{RuleList}
 use Rattle.rules.specs.declared.Checked.{Checked}
 use Rattle.rules.specs.declared.Checked.the-variants.{Accepted}
-use Rattle.rules.specs.Bounds.{zoneCount}
+use Rattle.rules.specs.Bounds.{zoneCount, maxNumber}
 use Rattle.rules.specs.Refusal.{badState, badZone, badCount}
 use Rattle.rules.specs.Check.{checkOf, activeRules}
 use Rattle.monitor.specs.State.{emptyState, validState, stateMask, moveOf}
@@ -16,10 +16,6 @@ use Rattle.monitor.specs.declared.Move.the-variants.{Quiet, Signal}
 use Rattle.monitor.specs.declared.Monitor.{Monitor}
 use Rattle.monitor.specs.declared.Step.{Step}
 use Rattle.monitor.specs.declared.Step.the-variants.{Refused}
-
--- the largest count; at it no further point is taken
-abbrev pub maxCount : ℕ
-maxCount = 4294967295
 
 -- the monitor with this state and count
 abbrev pub monitorAt : ℕ → ℕ → Monitor
@@ -31,16 +27,16 @@ freshMonitor = monitorAt emptyState 0
 
 -- quiet with the next state, or signal with the mask of all rules that hold and a fresh monitor; either with the count of points since the
 -- last reset, this one among them
-abbrev pub answerBy : Move → ℕ → ℕ → Step
-answerBy (Quiet t) mask count = Step.Quiet count (monitorAt t count)
-answerBy Signal mask count = Step.Signal count mask freshMonitor
+abbrev pub stepAnswer : Move → ℕ → ℕ → Step
+stepAnswer (Quiet t) mask count = Step.Quiet count (monitorAt t count)
+stepAnswer Signal mask count = Step.Signal count mask freshMonitor
 
 -- a step with rules that are accepted: 6, 5, 7, or the answer
 unfoldable pub acceptedStep : List Rule → Monitor → ℕ → Step
 acceptedStep rs m z =
     cond (ltb z zoneCount)
     (cond (validState (m .count) rs (m .state))
-    (cond (ltb (m .count) maxCount) (answerBy (moveOf rs (m .state) z) (stateMask rs (m .state) z) (m .count + 1)) (Refused badCount))
+    (cond (ltb (m .count) maxNumber) (stepAnswer (moveOf rs (m .state) z) (stateMask rs (m .state) z) (m .count + 1)) (Refused badCount))
     (Refused badState))
     (Refused badZone)
 

@@ -9,14 +9,14 @@ use native.Mathlib.Omega.{arith}
 use lib.Dec.{eqb}
 use borrow.Author.Tests.{lt-ltb, le-ltb, eq-eqb, ne-eqb}
 use Rattle.rules.specs.declared.Rule.{Rule}
-use Rattle.rules.specs.Bounds.{zoneCount}
+use Rattle.rules.specs.Bounds.{zoneCount, maxNumber}
 use Rattle.rules.specs.Refusal.{badState, badZone, badCount}
 use Rattle.monitor.specs.declared.Monitor.{Monitor}
 use Rattle.monitor.specs.declared.Move.the-variants.{Quiet, Signal}
 use Rattle.monitor.specs.declared.Step.{Step}
 use Rattle.monitor.specs.declared.Step.the-variants.{Refused}
 use Rattle.monitor.specs.State.{validState, stateMask, nextState, moveOf}
-use Rattle.monitor.specs.Step.{maxCount, monitorAt, freshMonitor, answerBy, acceptedStep}
+use Rattle.monitor.specs.Step.{monitorAt, freshMonitor, stepAnswer, acceptedStep}
 use Rattle.monitor.specs.Take.{takenOf}
 use Rattle.monitor.specs.declared.Taken.{Taken}
 
@@ -43,19 +43,19 @@ module _ (rs : List Rule) (m : Monitor) (z : ℕ) (zone : z < zoneCount) where
   step-bad-state f = rw (lt-ltb z zoneCount zone, f)
 
   module _ (valid : validState (m .count) rs (m .state) ≡ true) where
-    pub step-bad-count : maxCount ≤ m .count → acceptedStep rs m z ≡ Refused badCount
+    pub step-bad-count : maxNumber ≤ m .count → acceptedStep rs m z ≡ Refused badCount
     unfolding acceptedStep
-    step-bad-count h = rw (lt-ltb z zoneCount zone, valid, le-ltb (m .count) maxCount h)
+    step-bad-count h = rw (lt-ltb z zoneCount zone, valid, le-ltb (m .count) maxNumber h)
 
     -- an accepted step is its move, with the count
-    pub step-move : m .count < maxCount → acceptedStep rs m z ≡ answerBy (moveOf rs (m .state) z) (stateMask rs (m .state) z) (m .count + 1)
+    pub step-move : m .count < maxNumber → acceptedStep rs m z ≡ stepAnswer (moveOf rs (m .state) z) (stateMask rs (m .state) z) (m .count + 1)
     unfolding acceptedStep
-    step-move h = rw (lt-ltb z zoneCount zone, valid, lt-ltb (m .count) maxCount h)
+    step-move h = rw (lt-ltb z zoneCount zone, valid, lt-ltb (m .count) maxNumber h)
 
-    pub step-signal : m .count < maxCount → (stateMask rs (m .state) z ≡ 0 → ⊥) → acceptedStep rs m z ≡ Step.Signal (m .count + 1) (stateMask rs (m .state) z) freshMonitor
+    pub step-signal : m .count < maxNumber → (stateMask rs (m .state) z ≡ 0 → ⊥) → acceptedStep rs m z ≡ Step.Signal (m .count + 1) (stateMask rs (m .state) z) freshMonitor
     step-signal h e = step-move h ∙ rw (move-signal rs (m .state) z e)
 
-    pub step-quiet : m .count < maxCount → stateMask rs (m .state) z ≡ 0 → acceptedStep rs m z ≡ Step.Quiet (m .count + 1) (monitorAt (nextState rs (m .state) z) (m .count + 1))
+    pub step-quiet : m .count < maxNumber → stateMask rs (m .state) z ≡ 0 → acceptedStep rs m z ≡ Step.Quiet (m .count + 1) (monitorAt (nextState rs (m .state) z) (m .count + 1))
     step-quiet h e = step-move h ∙ rw (move-quiet rs (m .state) z e)
 
 -- ---- a point where nothing can be refused
@@ -74,7 +74,7 @@ abbrev pub stepTaken : ℕ → Taken → Step
 stepTaken count t = cond (eqb (t .mask) 0) (Step.Quiet count (t .next)) (Step.Signal count (t .mask) (t .next))
 
 -- where nothing is refused, a step is what taking the point says
-pub step-take : (rs : List Rule) (m : Monitor) (z : ℕ) → z < zoneCount → validState (m .count) rs (m .state) ≡ true → m .count < maxCount → acceptedStep rs m z ≡ stepTaken (m .count + 1) (takenOf rs m z)
+pub step-take : (rs : List Rule) (m : Monitor) (z : ℕ) → z < zoneCount → validState (m .count) rs (m .state) ≡ true → m .count < maxNumber → acceptedStep rs m z ≡ stepTaken (m .count + 1) (takenOf rs m z)
 step-take rs m z zone valid h =
     ⊎-elim
     (λ (n : stateMask rs (m .state) z ≡ 0). rw (step-quiet rs m z zone valid h n, take-quiet rs m z n))

@@ -18,10 +18,10 @@ unfoldable pub takenOf : List Rule → Monitor → ℕ → Taken
 takenOf rs m z = takenBy (stateMask rs (m .state) z) (nextState rs (m .state) z) (m .count + 1)
 
 -- the answer that a mask says, to the point with this count
-abbrev pub answerBy : ℕ → ℕ → Answer
-answerBy mask count = cond (eqb mask 0) (quiet count) (signal count mask)
+abbrev pub maskAnswer : ℕ → ℕ → Answer
+maskAnswer mask count = cond (eqb mask 0) (quiet count) (signal count mask)
 
 -- the answers to a list of points, given by their zones
 unfoldable pub takenAnswers : List Rule → Monitor → List ℕ → List Answer
 takenAnswers rs m [] = []
-takenAnswers rs m (z ∷ zs) = answerBy (takenOf rs m z .mask) (m .count + 1) ∷ takenAnswers rs (takenOf rs m z .next) zs
+takenAnswers rs m (z ∷ zs) = maskAnswer (takenOf rs m z .mask) (m .count + 1) ∷ takenAnswers rs (takenOf rs m z .next) zs

@@ -15,7 +15,7 @@ use borrow.Author.Tests.{lt-leb, leb-false, eq-eqb, ne-eqb, eqb-true}
 use Rattle.rules.specs.declared.Rule.{Rule}
 use Rattle.rules.specs.declared.RuleList.{RuleList}
 use Rattle.rules.specs.declared.Checked.the-variants.{Accepted}
-use Rattle.rules.specs.Bounds.{zoneCount}
+use Rattle.rules.specs.Bounds.{zoneCount, maxNumber}
 use Rattle.rules.specs.Check.{activeRules, checkOf}
 use Rattle.rules.specs.CheckLaws.{accepted}
 use Rattle.rules.specs.InBounds.{InBounds, AllInBounds}
@@ -27,11 +27,11 @@ use Rattle.monitor.specs.WindowLaws.{live-le}
 use Rattle.monitor.specs.ForgetLaws.{live-again, hits-fewer, hits-no-older, hits-first}
 use Rattle.monitor.specs.State.{validState, holding, stateMask, nextState}
 use Rattle.monitor.specs.StateLaws.{window-small}
-use Rattle.monitor.specs.Step.{maxCount}
 use Rattle.monitor.specs.StepLaws.{step-signal, step-quiet, take-signal, take-quiet}
 use Rattle.monitor.specs.SettledLaws.{both}
 use Rattle.monitor.specs.Take.{takenOf, takenAnswers}
-use Rattle.monitor.specs.Calls.{monitorAnswers, ZonesExist}
+use Rattle.monitor.specs.Calls.{monitorAnswers}
+use Rattle.runlength.specs.Sequence.{AllBelow}
 use Rattle.monitor.specs.RowLaws.{young, digit, digits, bit-zero, valid-of-row, empty-row-state, empty-row-mask}
 use Rattle.monitor.specs.Agreement.{rules-accepted}
 
@@ -109,8 +109,8 @@ taken-valid rs p m z zone v =
 
 module _ (l : RuleList) (a : checkOf l ≡ Accepted) where
   -- from a monitor that can be given, zones that exist and room in the count: taking the points answers as stepping does
-  pub taken-answers : (m : Monitor) → validState (m .count) (activeRules l) (m .state) ≡ true → (zs : List ℕ) → ZonesExist zs → m .count + length zs ≤ maxCount → monitorAnswers l m zs ≡ takenAnswers (activeRules l) m zs
-  unfolding monitorAnswers takenAnswers ZonesExist
+  pub taken-answers : (m : Monitor) → validState (m .count) (activeRules l) (m .state) ≡ true → (zs : List ℕ) → AllBelow zoneCount zs → m .count + length zs ≤ maxNumber → monitorAnswers l m zs ≡ takenAnswers (activeRules l) m zs
+  unfolding monitorAnswers takenAnswers AllBelow
   taken-answers m v [] p q = refl
   taken-answers m v (z ∷ zs) p q =
       let rs = activeRules l in

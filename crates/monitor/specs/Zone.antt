@@ -5,8 +5,8 @@ use lib.Dec.{leb}
 use lib.IntN.{ℤ, pos, negsuc, _-ℤ_}
 use Rattle.rules.specs.Check.{within}
 use Rattle.rules.specs.Refusal.{badSigma}
-use Rattle.monitor.specs.declared.zone.Zoned.{Zoned}
-use Rattle.monitor.specs.declared.zone.Zoned.the-variants.{Zone, Refused}
+use Rattle.monitor.specs.declared.zone.ZoneAnswer.{ZoneAnswer}
+use Rattle.monitor.specs.declared.zone.ZoneAnswer.the-variants.{Zone, Refused}
 
 -- document 01's bounds of the step d
 abbrev pub minSigma : ℕ
@@ -48,5 +48,5 @@ zoneAt (pos n) sigma = band sigma n zoneC1 zoneB1 zoneA1
 zoneAt (negsuc n) sigma = band sigma (suc n) zoneC2 zoneB2 zoneA2
 
 -- 1 where sigma is out of bounds, else the zone at t = reading - centre, exact over the integers
-unfoldable pub zoneOf : ℤ → ℤ → ℕ → Zoned
+unfoldable pub zoneOf : ℤ → ℤ → ℕ → ZoneAnswer
 zoneOf reading centre sigma = cond (within minSigma maxSigma sigma) (Zone (zoneAt (reading -ℤ centre) sigma)) (Refused badSigma)

@@ -10,7 +10,7 @@ use borrow.Author.Tests.{lt-ltb, le-ltb, lt-leb, le-leb}
 use Rattle.rules.specs.Bounds.{zoneCount}
 use Rattle.rules.specs.Refusal.{badSigma}
 use Rattle.monitor.specs.Zone.{minSigma, maxSigma, zoneS, zoneA1, zoneB1, zoneC1, zoneC2, zoneB2, zoneA2, band, zoneAt, zoneOf}
-use Rattle.monitor.specs.declared.zone.Zoned.the-variants.{Zone, Refused}
+use Rattle.monitor.specs.declared.zone.ZoneAnswer.the-variants.{Zone, Refused}
 
 -- a signed number of 32 bits, 2^31 higher, is no number below 0
 pub raised : (z : ℤ) → mag z < 2 ^ 31 → (n : ℕ) × (z +ℤ pos 2147483648 ≡ pos n) × (n < 2 ^ 32)

@@ -1,16 +1,17 @@
 // The monitor: a chart that keeps only what its rules still need to remember.
 use rules::Checked;
+use rules::MAX_NUMBER;
 use rules::Refusal;
 use rules::RuleList;
 use rules::ZONES;
 ghost use mathlib.Core.Path.{_≡_};
 ghost use mathlib.Core.Bool.{true};
 ghost use Prim.Native.Nat.{_≤_, _<_};
-ghost use Rattle.rules.specs.Bounds.{zoneCount, maxRules};
+ghost use Rattle.rules.specs.Bounds.{zoneCount, maxRules, maxNumber};
 ghost use Rattle.rules.specs.Check.{activeRules};
 ghost use Rattle.rules.specs.InBounds.{AllInBounds};
 ghost use Rattle.monitor.specs.State.{validState, moveOf};
-ghost use Rattle.monitor.specs.Step.{maxCount, acceptedStep, freshMonitor, stepOf};
+ghost use Rattle.monitor.specs.Step.{acceptedStep, freshMonitor, stepOf};
 ghost use Rattle.monitor.specs.Take.{takenOf};
 
 mod state;
@@ -63,9 +64,6 @@ pub fn move_of(list: RuleList, state: u64, zone: u32) -> Move
 }
 
 impl Monitor {
-    // The largest count; at it no further point is taken.
-    pub const MAX_COUNT: u32 = 4294967295;
-
     // The empty state and count 0.
     pub fn fresh() -> Monitor
         ensures { λ r. ⌜ r ≡ freshMonitor ⌝ }
@@ -84,7 +82,7 @@ impl Monitor {
     // One point, for rules that are accepted, a zone that exists, a state that can be given and a count that is not full: every rule's window
     // is moved once, from the last rule to the first.
     pub fn take(self, list: RuleList, zone: u32) -> Taken
-        requires { ⌜ (list .len ≤ maxRules) × AllInBounds (activeRules list) × (zone < zoneCount) × (self .count < maxCount) ⌝ }
+        requires { ⌜ (list .len ≤ maxRules) × AllInBounds (activeRules list) × (zone < zoneCount) × (self .count < maxNumber) ⌝ }
         requires { ⌜ validState (self .count) (activeRules list) (self .state) ≡ true ⌝ }
         ensures { λ r. ⌜ r ≡ takenOf (activeRules list) self zone ⌝ }
     {
@@ -132,7 +130,7 @@ impl Monitor {
             });
         }
         let points = self.count;
-        if points >= Monitor::MAX_COUNT {
+        if points >= MAX_NUMBER {
             return Step::Refused(Refusal {
                 number: Refusal::COUNT,
                 place: 0,

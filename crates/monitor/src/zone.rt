@@ -5,12 +5,12 @@ ghost use Prim.Native.Nat.{_+_, _≤_, _<_};
 ghost use lib.IntN.{pos, _+ℤ_, _-ℤ_};
 ghost use Rattle.monitor.specs.Zone.{zoneOf, zoneAt, band, maxSigma};
 
-pub enum Zoned {
+pub enum ZoneAnswer {
     Zone(u32),
     Refused(Refusal),
 }
 
-impl Zoned {
+impl ZoneAnswer {
     // The bounds of sigma (document 01's step d).
     pub const MIN_SIGMA: u32 = 1;
 
@@ -54,7 +54,7 @@ fn band_of(sigma: u32, distance: u64, one: u32, two: u32, three: u32) -> u32
     if distance <= 3 * width {
         return three;
     }
-    Zoned::S
+    ZoneAnswer::S
 }
 
 // The zone of a reading where sigma is within its bounds.
@@ -65,27 +65,39 @@ pub fn zone_at(reading: i32, centre: i32, sigma: u32) -> u32
     let at = biased(reading);
     let middle = biased(centre);
     if at < middle {
-        band_of(sigma, middle - at, Zoned::C2, Zoned::B2, Zoned::A2)
+        band_of(
+            sigma,
+            middle - at,
+            ZoneAnswer::C2,
+            ZoneAnswer::B2,
+            ZoneAnswer::A2,
+        )
     } else {
-        band_of(sigma, at - middle, Zoned::C1, Zoned::B1, Zoned::A1)
+        band_of(
+            sigma,
+            at - middle,
+            ZoneAnswer::C1,
+            ZoneAnswer::B1,
+            ZoneAnswer::A1,
+        )
     }
 }
 
 // The zone of a reading on a chart with this centre and sigma: refused by 1 where sigma is out of bounds.
-pub fn zone_of(reading: i32, centre: i32, sigma: u32) -> Zoned
+pub fn zone_of(reading: i32, centre: i32, sigma: u32) -> ZoneAnswer
     ensures { λ z. ⌜ z ≡ zoneOf reading centre sigma ⌝ }
 {
-    if sigma < Zoned::MIN_SIGMA {
-        return Zoned::Refused(Refusal {
+    if sigma < ZoneAnswer::MIN_SIGMA {
+        return ZoneAnswer::Refused(Refusal {
             number: Refusal::SIGMA,
             place: 0,
         });
     }
-    if sigma > Zoned::MAX_SIGMA {
-        return Zoned::Refused(Refusal {
+    if sigma > ZoneAnswer::MAX_SIGMA {
+        return ZoneAnswer::Refused(Refusal {
             number: Refusal::SIGMA,
             place: 0,
         });
     }
-    Zoned::Zone(zone_at(reading, centre, sigma))
+    ZoneAnswer::Zone(zone_at(reading, centre, sigma))
 }

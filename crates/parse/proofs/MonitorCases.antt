@@ -14,7 +14,8 @@ use Rattle.text.proofs.Else.{TagIn, not-chart}
 use Rattle.parse.specs.declared.rule_lines.RulesRead.{RulesRead}
 use Rattle.parse.specs.declared.point_lines.PointsRead.{PointsRead}
 use Rattle.parse.specs.declared.monitors.MonitorText.{MonitorText}
-use Rattle.parse.specs.Limits.{maxText, notRefused, badLine, tooLong}
+use Rattle.rules.specs.Refusal.{notRefused, badLine, tooLong}
+use Rattle.text.specs.Size.{maxText}
 use Rattle.parse.specs.Rules.{rulesAt, afterRules, rulesRead}
 use Rattle.parse.specs.RulesLaws.{rules-fit}
 use Rattle.parse.specs.Readings.{afterPoints, pointsRead}

@@ -6,7 +6,7 @@ use mathlib.Core.List.{List, []}
 use native.Mathlib.Omega.{arith}
 use lib.ListN.{length}
 use lib.IntN.{ℤ}
-use Rattle.rules.specs.declared.Refusal.{Refusal}
+use Rattle.rules.specs.declared.refusal.Refusal.{Refusal}
 use Rattle.text.specs.declared.lines.Line.{Line}
 use Rattle.text.specs.declared.lines.Line.the-variants.{Rule, Other}
 use Rattle.text.specs.Line.{lineAt, beginsRule}
@@ -15,7 +15,7 @@ use Rattle.text.specs.OnLine.{onRule}
 use Rattle.text.specs.LineLaws.{rule-or-other, rule-within}
 use Rattle.parse.specs.declared.rule_lines.RulesRead.{RulesRead}
 use Rattle.parse.specs.declared.parts.Parts.{Parts}
-use Rattle.parse.specs.Limits.{notRefused, badLine}
+use Rattle.rules.specs.Refusal.{notRefused, badLine}
 use Rattle.parse.specs.Rules.{rulesAt, afterRules, rulesRead}
 use Rattle.parse.specs.RulesLaws.{rules-end}
 use Rattle.parse.specs.Readings.{readingsAt, afterPoints, pointsRead}

@@ -16,8 +16,8 @@ use Rattle.text.specs.OnLine.{onRule}
 use Rattle.text.specs.LineLaws.{line-stands, line-ahead, no-rule}
 use Rattle.text.proofs.Else.{TagIn, not-rule}
 use Rattle.parse.specs.declared.rule_lines.RulesRead.{RulesRead}
-use Rattle.parse.specs.Limits.{notRefused, badLine}
-use Rattle.parse.specs.Rules.{rulesAt, afterRules, listOf, pushed, rulesRead}
+use Rattle.rules.specs.Refusal.{notRefused, badLine}
+use Rattle.parse.specs.Rules.{rulesAt, afterRules, ruleListOf, pushed, rulesRead}
 use Rattle.parse.specs.RulesLaws.{pushed-list}
 
 -- the list l holds the rules from `at` on up to the line at i
@@ -25,13 +25,13 @@ pub record RulesUpTo (s : List ℕ) (at : ℕ) (l : RuleList) (i : ℕ) : Type 0
   pub rules : List Rule
   pub fuel : ℕ
   pub enough : length s ≤ i + fuel
-  pub held : l ≡ listOf rules
+  pub held : l ≡ ruleListOf rules
   pub rest : rules ++ rulesAt fuel s i ≡ rulesAt (length s) s at
   pub end : afterRules fuel s i ≡ afterRules (length s) s at
   pub few : 8 * length rules ≤ i
   pub fit : 8 * length rules ≤ length s
 
-pub rules-start : (s : List ℕ) (at : ℕ) (l : RuleList) → l ≡ listOf [] → RulesUpTo s at l at
+pub rules-start : (s : List ℕ) (at : ℕ) (l : RuleList) → l ≡ ruleListOf [] → RulesUpTo s at l at
 rules-start s at l e = record {
   rules = [];
   fuel = length s;
@@ -45,7 +45,7 @@ rules-start s at l e = record {
 
 -- the number of rules fits
 pub rules-few : {s : List ℕ} {at : ℕ} {l : RuleList} {i : ℕ} → RulesUpTo s at l i → 8 * l .len ≤ length s
-unfolding listOf
+unfolding ruleListOf
 rules-few u = rw (u .held) (u .fit)
 
 -- a rule line reaches ahead, and not over the end
@@ -82,12 +82,12 @@ rules-more {s} {at} {l} {i} k m zones next e u = go (u .fuel) (u .enough) (u .re
 
 -- the line at i is no rule line: all is read
 rules-all : {s : List ℕ} {at : ℕ} {l : RuleList} {i : ℕ} → RulesUpTo s at l i → ((A : Type 0) (f : ℕ → ℕ → ℕ → ℕ → A) (other : A) → onRule (lineAt s i) f other ≡ other)
-    → (l ≡ listOf (rulesAt (length s) s at)) × (l .len ≡ length (rulesAt (length s) s at)) × (i ≡ afterRules (length s) s at)
-unfolding rulesAt afterRules listOf
+    → (l ≡ ruleListOf (rulesAt (length s) s at)) × (l .len ≡ length (rulesAt (length s) s at)) × (i ≡ afterRules (length s) s at)
+unfolding rulesAt afterRules ruleListOf
 rules-all {s} {at} {l} {i} u none = go (u .fuel) (u .rest) (u .end)
   where
     go : (f : ℕ) → u .rules ++ rulesAt f s i ≡ rulesAt (length s) s at → afterRules f s i ≡ afterRules (length s) s at
-        → (l ≡ listOf (rulesAt (length s) s at)) × (l .len ≡ length (rulesAt (length s) s at)) × (i ≡ afterRules (length s) s at)
+        → (l ≡ ruleListOf (rulesAt (length s) s at)) × (l .len ≡ length (rulesAt (length s) s at)) × (i ≡ afterRules (length s) s at)
     go zero p q =
         let a : u .rules ≡ rulesAt (length s) s at = sym (append-nil (u .rules)) ∙ p in
         (rw (← a) (u .held), rw (← a, u .held), q)

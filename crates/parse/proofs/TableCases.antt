@@ -5,7 +5,7 @@ use mathlib.Core.List.{List, [], _∷_}
 use native.Mathlib.Omega.{arith}
 use lib.ListN.{length}
 use borrow.Author.Tests.{le-leb, lt-leb}
-use Rattle.rules.specs.Refusal.{refusal}
+use Rattle.rules.specs.Refusal.{refusal, notRefused, badLine, tooLong}
 use Rattle.text.specs.declared.lines.ZoneWeights.{ZoneWeights}
 use Rattle.text.specs.declared.lines.Line.{Line}
 use Rattle.text.specs.declared.lines.Line.the-variants.{Weights, Horizon}
@@ -14,7 +14,7 @@ use Rattle.text.specs.Line.{lineAt}
 use Rattle.text.proofs.Else.{TagIn, not-weights, not-horizon}
 use Rattle.parse.specs.declared.rule_lines.RulesRead.{RulesRead}
 use Rattle.parse.specs.declared.tables.TableText.{TableText}
-use Rattle.parse.specs.Limits.{maxText, notRefused, badLine, tooLong}
+use Rattle.text.specs.Size.{maxText}
 use Rattle.parse.specs.Rules.{rulesAt, rulesRead}
 use Rattle.parse.specs.RulesLaws.{rules-fit}
 use Rattle.parse.proofs.PartCases.{bad-rule}

@@ -8,7 +8,7 @@ use Rattle.text.specs.Word.{pastWord}
 use Rattle.text.specs.Number.{digitsFrom, numberAt, fieldAt}
 use Rattle.text.specs.Signed.{signedAt, signedFieldAt}
 use Rattle.text.specs.Line.{zoneWeights, fieldsFrom, weightsFrom, ruleFrom, horizonFrom, chartFrom, pointFrom, lineAt}
-use Rattle.parse.specs.Limits.{badLine}
+use Rattle.rules.specs.Refusal.{badLine}
 use Rattle.parse.specs.Rules.{rulesAt, afterRules}
 use Rattle.parse.specs.TableText.{refusedTable, readTable, tableEnd, tableText}
 use Rattle.parse.specs.Readings.{readingsAt, afterPoints}

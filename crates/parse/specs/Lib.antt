@@ -1,4 +1,3 @@
-pub mod Limits
 pub mod Rules
 pub mod RulesLaws
 pub mod TableText

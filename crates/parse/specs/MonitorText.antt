@@ -6,21 +6,22 @@ use lib.ListN.{length}
 use lib.Dec.{leb}
 use lib.IntN.{ℤ, pos}
 use Rattle.rules.specs.declared.Rule.{Rule}
-use Rattle.rules.specs.declared.Refusal.{Refusal}
+use Rattle.rules.specs.declared.refusal.Refusal.{Refusal}
 use Rattle.text.specs.Line.{lineAt}
 use Rattle.text.specs.OnLine.{onChart}
 use Rattle.parse.specs.declared.monitors.MonitorText.{MonitorText}
-use Rattle.parse.specs.Limits.{maxText, notRefused, badLine, tooLong}
-use Rattle.parse.specs.Rules.{rulesAt, afterRules, listOf}
+use Rattle.rules.specs.Refusal.{notRefused, badLine, tooLong}
+use Rattle.text.specs.Size.{maxText}
+use Rattle.parse.specs.Rules.{rulesAt, afterRules, ruleListOf}
 use Rattle.parse.specs.Readings.{readingsAt, afterPoints}
 
 -- a refusal comes with zeros and no rules
 unfoldable pub refusedMonitor : Refusal → MonitorText
-refusedMonitor x = record { refusal = x; centre = pos 0; sigma = 0; list = listOf []; points = 0; count = 0 }
+refusedMonitor x = record { refusal = x; centre = pos 0; sigma = 0; list = ruleListOf []; points = 0; count = 0 }
 
 -- a chart, rules, and the point lines from the offset `at` on, one for each reading
 unfoldable pub readMonitor : ℤ → ℕ → List Rule → ℕ → List ℤ → MonitorText
-readMonitor centre sigma rs at xs = record { refusal = notRefused; centre = centre; sigma = sigma; list = listOf rs; points = at; count = length xs }
+readMonitor centre sigma rs at xs = record { refusal = notRefused; centre = centre; sigma = sigma; list = ruleListOf rs; points = at; count = length xs }
 
 -- behind the chart and the rules rs, at the offset `at`: the point lines, and the end of the text.
 -- The chart is line 1, so that the first line behind the points is the line 2 behind the number of rules and of points

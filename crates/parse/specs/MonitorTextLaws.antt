@@ -14,7 +14,8 @@ use Rattle.text.specs.declared.lines.Line.the-variants.{Weights, Rule as RuleLi
 use Rattle.text.specs.Line.{lineAt}
 use Rattle.text.specs.OnLine.{onChart}
 use Rattle.parse.specs.declared.monitors.MonitorText.{MonitorText}
-use Rattle.parse.specs.Limits.{maxText, badLine}
+use Rattle.rules.specs.Refusal.{badLine}
+use Rattle.text.specs.Size.{maxText}
 use Rattle.parse.specs.Rules.{rulesAt, afterRules}
 use Rattle.parse.specs.Readings.{readingsAt, afterPoints, lineOffset}
 use Rattle.parse.specs.ReadingsLaws.{points-fit, point-line}

@@ -11,7 +11,7 @@ use Rattle.rules.specs.Check.{noRule}
 use Rattle.rules.specs.Ready.{ruleOf}
 use Rattle.text.specs.Line.{lineAt, beginsRule}
 use Rattle.text.specs.OnLine.{onRule}
-use Rattle.parse.specs.Limits.{notRefused, badLine}
+use Rattle.rules.specs.Refusal.{notRefused, badLine}
 use Rattle.parse.specs.declared.rule_lines.RulesRead.{RulesRead}
 
 -- the rules, from the line at `at` on; the fuel is a bound on the number of lines, and the text's length is enough
@@ -31,8 +31,8 @@ slotsOf (suc n) [] = noRule ∷ slotsOf n []
 slotsOf (suc n) (r ∷ rs) = r ∷ slotsOf n rs
 
 -- the list: its length counts all the rules, also those that have no slot
-unfoldable pub listOf : List Rule → RuleList
-listOf rs = record { rules = slotsOf maxRules rs; len = length rs }
+unfoldable pub ruleListOf : List Rule → RuleList
+ruleListOf rs = record { rules = slotsOf maxRules rs; len = length rs }
 
 -- one rule more
 unfoldable pub pushed : RuleList → Rule → RuleList
@@ -42,7 +42,7 @@ pushed l r = record { rules = cond (leb maxRules (l .len)) (l .rules) (set (l .r
 unfoldable pub rulesRead : List ℕ → ℕ → RulesRead
 rulesRead s at = record {
   refusal = cond (beginsRule s (afterRules (length s) s at)) (badLine (2 + length (rulesAt (length s) s at))) notRefused;
-  list = listOf (rulesAt (length s) s at);
+  list = ruleListOf (rulesAt (length s) s at);
   next = afterRules (length s) s at;
   line = 2 + length (rulesAt (length s) s at);
 }

@@ -16,7 +16,7 @@ use Rattle.text.specs.declared.lines.Line.the-variants.{Weights, Rule as RuleLi
 use Rattle.text.specs.Line.{lineAt}
 use Rattle.text.specs.OnLine.{onRule}
 use Rattle.text.specs.LineLaws.{line-stands, line-ahead, line-beyond}
-use Rattle.parse.specs.Rules.{rulesAt, afterRules, slotsOf, listOf, pushed}
+use Rattle.parse.specs.Rules.{rulesAt, afterRules, slotsOf, ruleListOf, pushed}
 
 -- a rule more goes into the next slot
 slots-set : (n : ℕ) (rs : List Rule) (r : Rule) → length rs < n → set (slotsOf n rs) (length rs) r ≡ slotsOf n (rs ++ (r ∷ []))
@@ -35,11 +35,11 @@ slots-full (suc n) (x ∷ rs) r h = ap (λ (l : List Rule). x ∷ l) (slots-full
 more : (rs : List Rule) (r : Rule) → length (rs ++ (r ∷ [])) ≡ length rs + 1
 more rs r = simp length-append
 
-pub pushed-list : (rs : List Rule) (r : Rule) → pushed (listOf rs) r ≡ listOf (rs ++ (r ∷ []))
-unfolding listOf pushed
+pub pushed-list : (rs : List Rule) (r : Rule) → pushed (ruleListOf rs) r ≡ ruleListOf (rs ++ (r ∷ []))
+unfolding ruleListOf pushed
 pushed-list rs r = go (leb maxRules (length rs)) refl
   where
-    go : (t : Bool) → leb maxRules (length rs) ≡ t → pushed (listOf rs) r ≡ listOf (rs ++ (r ∷ []))
+    go : (t : Bool) → leb maxRules (length rs) ≡ t → pushed (ruleListOf rs) r ≡ ruleListOf (rs ++ (r ∷ []))
     go true e = rw (e, more rs r, slots-full maxRules rs r (leb-true _ _ e))
     go false e = rw (e, more rs r, slots-set maxRules rs r (leb-false _ _ e))
 
@@ -62,8 +62,8 @@ from-slots l (r ∷ rs) i k =
     rw (head, from-slots l rs (i + 1) (λ j h. let e : i + 1 + j ≡ i + suc j = omega arith in rw e (k (suc j) (omega arith))))
 
 -- a list of at most so many rules as there are slots has them all
-pub active-rules : (rs : List Rule) → length rs ≤ maxRules → activeRules (listOf rs) ≡ rs
-unfolding listOf
+pub active-rules : (rs : List Rule) → length rs ≤ maxRules → activeRules (ruleListOf rs) ≡ rs
+unfolding ruleListOf
 active-rules rs h = from-slots (slotsOf maxRules rs) rs 0 (λ j l. let e : 0 + j ≡ j = omega arith in rw e (slots-get maxRules j rs (omega arith)))
 
 -- ---- the rule lines fit into the text: each has 8 bytes or more

@@ -5,23 +5,24 @@ use mathlib.Core.List.{List, []}
 use lib.ListN.{length, replicate}
 use lib.Dec.{leb}
 use Rattle.rules.specs.declared.Rule.{Rule}
-use Rattle.rules.specs.declared.Refusal.{Refusal}
+use Rattle.rules.specs.declared.refusal.Refusal.{Refusal}
 use Rattle.rules.specs.Bounds.{zoneCount}
 use Rattle.text.specs.declared.lines.ZoneWeights.{ZoneWeights}
 use Rattle.text.specs.Format.{weightList}
 use Rattle.text.specs.Line.{lineAt}
 use Rattle.text.specs.OnLine.{onWeights, onHorizon}
 use Rattle.parse.specs.declared.tables.TableText.{TableText}
-use Rattle.parse.specs.Limits.{maxText, notRefused, badLine, tooLong}
-use Rattle.parse.specs.Rules.{rulesAt, afterRules, listOf}
+use Rattle.rules.specs.Refusal.{notRefused, badLine, tooLong}
+use Rattle.text.specs.Size.{maxText}
+use Rattle.parse.specs.Rules.{rulesAt, afterRules, ruleListOf}
 
 -- a refusal comes with no weights, no rules and no horizon
 unfoldable pub refusedTable : Refusal → TableText
-refusedTable x = record { refusal = x; weights = replicate zoneCount 0; list = listOf []; horizon = 0 }
+refusedTable x = record { refusal = x; weights = replicate zoneCount 0; list = ruleListOf []; horizon = 0 }
 
 -- weights, rules and a horizon
 unfoldable pub readTable : ZoneWeights → List Rule → ℕ → TableText
-readTable w rs h = record { refusal = notRefused; weights = weightList w; list = listOf rs; horizon = h }
+readTable w rs h = record { refusal = notRefused; weights = weightList w; list = ruleListOf rs; horizon = h }
 
 -- behind the weights w and the rules rs, at the offset `at`: the horizon line, and the end of the text.
 -- The weights are line 1, so that the horizon is the line 2 behind the number of rules

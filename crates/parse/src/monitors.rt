@@ -1,12 +1,10 @@
 // The monitor program's text: a chart line, rule lines, and point lines to the end.
 use crate::parts::read_parts;
-use crate::rule_lines::BAD_LINE;
-use crate::rule_lines::MAX_TEXT;
-use crate::rule_lines::TOO_LONG;
 use crate::rule_lines::no_rules;
 use rules::Refusal;
 use rules::RuleList;
 use text::Line;
+use text::MAX_TEXT;
 ghost use mathlib.Core.Path.{_≡_};
 ghost use Rattle.rules.specs.Refusal.{refusal};
 ghost use Rattle.parse.specs.MonitorText.{refusedMonitor, monitorText};
@@ -40,12 +38,12 @@ pub fn monitor_text(text: &[u8]) -> MonitorText
     ensures { λ r. ⌜ r ≡ monitorText (now (text .entry)) ⌝ }
 {
     if text.len() > MAX_TEXT {
-        return refused_monitor(TOO_LONG, 0);
+        return refused_monitor(Refusal::TEXT_SIZE, 0);
     }
     let parts = read_parts(text);
     let first = parts.first;
     let Line::Chart { centre, sigma, .. } = first else {
-        return refused_monitor(BAD_LINE, 1);
+        return refused_monitor(Refusal::LINE, 1);
     };
     let read = parts.rules;
     let refusal = read.refusal;
@@ -59,7 +57,7 @@ pub fn monitor_text(text: &[u8]) -> MonitorText
     let count = found.count;
     let end = found.next;
     if end < text.len() {
-        return refused_monitor(BAD_LINE, line + count);
+        return refused_monitor(Refusal::LINE, line + count);
     }
     MonitorText {
         refusal: Refusal {

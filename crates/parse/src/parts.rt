@@ -11,7 +11,7 @@ use text::next_of;
 ghost use mathlib.Core.Path.{_≡_};
 ghost use Prim.Native.Nat.{_≤_};
 ghost use lib.ListN.{length};
-ghost use Rattle.parse.specs.Limits.{maxText};
+ghost use Rattle.text.specs.Size.{maxText};
 ghost use Rattle.parse.specs.Parts.{partsOf};
 
 // The first line, the rule lines behind it, the line behind those, and the point lines from that one on.

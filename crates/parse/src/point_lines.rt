@@ -5,7 +5,7 @@ use text::line_at;
 ghost use mathlib.Core.Path.{_≡_};
 ghost use Prim.Native.Nat.{_≤_};
 ghost use lib.ListN.{length};
-ghost use Rattle.parse.specs.Limits.{maxText};
+ghost use Rattle.text.specs.Size.{maxText};
 ghost use Rattle.parse.specs.Readings.{pointsRead};
 
 // How many point lines there are, and the offset of the first line that is none.

@@ -1,4 +1,4 @@
-// The rule lines of a text, from an offset on, and the limits of a text.
+// The rule lines of a text, from an offset on.
 use rules::Refusal;
 use rules::Rule;
 use rules::RuleList;
@@ -10,17 +10,8 @@ ghost use mathlib.Core.Path.{_≡_};
 ghost use Prim.Native.Nat.{_≤_};
 ghost use mathlib.Core.List.{[]};
 ghost use lib.ListN.{length};
-ghost use Rattle.parse.specs.Limits.{maxText};
-ghost use Rattle.parse.specs.Rules.{listOf, pushed, rulesRead};
-
-// The longest text that is read, in bytes.
-pub(crate) const MAX_TEXT: usize = 65536;
-
-// Document 01's number of a text that is too long.
-pub(crate) const TOO_LONG: u32 = 17;
-
-// Document 01's number of a line that is not the one expected, or cannot be read.
-pub(crate) const BAD_LINE: u32 = 16;
+ghost use Rattle.text.specs.Size.{maxText};
+ghost use Rattle.parse.specs.Rules.{ruleListOf, pushed, rulesRead};
 
 // The number of the first line behind the first line.
 const SECOND: u32 = 2;
@@ -36,7 +27,7 @@ pub(crate) struct RulesRead {
 
 // The list of no rules.
 pub(crate) fn no_rules() -> RuleList
-    ensures { λ r. ⌜ r ≡ listOf [] ⌝ }
+    ensures { λ r. ⌜ r ≡ ruleListOf [] ⌝ }
 {
     RuleList {
         rules: [Rule {
@@ -79,7 +70,7 @@ fn read_rules(text: &[u8], at: usize) -> RulesRead
         let Line::Rule { k, m, zones, next } = line_at(text, i) else {
             return RulesRead {
                 refusal: Refusal {
-                    number: BAD_LINE,
+                    number: Refusal::LINE,
                     place: SECOND + list.len,
                 },
                 list,

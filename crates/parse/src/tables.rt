@@ -1,13 +1,11 @@
 // The table program's text: a weights line, rule lines, a horizon line, and nothing more.
 use crate::parts::read_parts;
-use crate::rule_lines::BAD_LINE;
-use crate::rule_lines::MAX_TEXT;
-use crate::rule_lines::TOO_LONG;
 use crate::rule_lines::no_rules;
 use rules::Refusal;
 use rules::RuleList;
 use rules::ZONES;
 use text::Line;
+use text::MAX_TEXT;
 use text::ZoneWeights;
 ghost use mathlib.Core.Path.{_≡_};
 ghost use Rattle.rules.specs.Refusal.{refusal};
@@ -45,12 +43,12 @@ pub fn table_text(text: &[u8]) -> TableText
     ensures { λ r. ⌜ r ≡ tableText (now (text .entry)) ⌝ }
 {
     if text.len() > MAX_TEXT {
-        return refused_table(TOO_LONG, 0);
+        return refused_table(Refusal::TEXT_SIZE, 0);
     }
     let parts = read_parts(text);
     let first = parts.first;
     let Line::Weights { weights, .. } = first else {
-        return refused_table(BAD_LINE, 1);
+        return refused_table(Refusal::LINE, 1);
     };
     let read = parts.rules;
     let refusal = read.refusal;
@@ -61,10 +59,10 @@ pub fn table_text(text: &[u8]) -> TableText
     let line = read.line;
     let last = parts.last;
     let Line::Horizon { horizon, next } = last else {
-        return refused_table(BAD_LINE, line);
+        return refused_table(Refusal::LINE, line);
     };
     if next < text.len() {
-        return refused_table(BAD_LINE, line + 1);
+        return refused_table(Refusal::LINE, line + 1);
     }
     TableText {
         refusal: Refusal {

@@ -8,13 +8,13 @@ use Rattle.rules.specs.declared.Rule.{Rule}
 use Rattle.rules.specs.declared.RuleList.{RuleList}
 use Rattle.rules.specs.Bounds.{zoneCount}
 use Rattle.rules.specs.Check.{activeRules}
-use Rattle.runlength.specs.Sum.{sum, tab, front}
+use Rattle.runlength.specs.Sum.{sum, tab, front, at}
 use Rattle.runlength.specs.SumLaws.{sum-cong, sum-le, sum-const}
 use Rattle.runlength.specs.TabLaws.{length-tab, getD-tab}
 use Rattle.runlength.specs.Chain.{Chain, pmf, cdf, survival, restrictedMean}
-use Rattle.rows.specs.Limits.{weightTotal, unitsPerOne}
+use Rattle.runlength.specs.Scale.{weightTotal, unitsPerOne}
 use Rattle.table.specs.declared.TableFigures.{TableFigures}
-use Rattle.table.specs.Table.{weightOf, stateCount, tableChain, figuresOf, tableOf}
+use Rattle.table.specs.Table.{stateCount, tableChain, figuresOf, tableOf}
 use Rattle.bracket.specs.Bracket.{cdfOf}
 use Rattle.table.specs.Accepted.{Passed, AcceptedCall}
 use Rattle.table.specs.AcceptedLaws.{count-some, take-front, table-mass}
@@ -22,7 +22,7 @@ use Rattle.plot.specs.Plot.{Plottable}
 
 -- ---- the figures and the list of an accepted table
 
-module _ (rs : List Rule) (w : List ℕ) (weights : sum zoneCount (weightOf w) ≡ weightTotal) where
+module _ (rs : List Rule) (w : List ℕ) (weights : sum zoneCount (at w) ≡ weightTotal) where
   abbrev chain : Chain
   chain = tableChain rs w
 

@@ -18,21 +18,21 @@ itemOf (bracket.Beyond h) = item.Beyond (nearestTo h 1)
 
 -- a bracket's number, where it is a point
 pub data Point : Type 0 where
-  at : ℕ → Point
-  none : Point
+  single : ℕ → Point
+  noPoint : Point
 
 abbrev pub pointOf : BracketAnswer → Point
-pointOf (bracket.Refused x) = none
-pointOf (bracket.At n) = at n
-pointOf (bracket.Between low high) = none
-pointOf (bracket.Open low) = none
-pointOf (bracket.Beyond h) = none
+pointOf (bracket.Refused x) = noPoint
+pointOf (bracket.At n) = single n
+pointOf (bracket.Between low high) = noPoint
+pointOf (bracket.Open low) = noPoint
+pointOf (bracket.Beyond h) = noPoint
 
 -- two points, where both are, stand in order
 abbrev pub inOrder : Point → Point → Type 0
-inOrder (at a) (at b) = a ≤ b
-inOrder (at a) none = Unit
-inOrder none q = Unit
+inOrder (single a) (single b) = a ≤ b
+inOrder (single a) noPoint = Unit
+inOrder noPoint q = Unit
 
 abbrev pub Ordered : BracketAnswer → BracketAnswer → Type 0
 Ordered q25 q75 = inOrder (pointOf q25) (pointOf q75)
@@ -42,9 +42,9 @@ abbrev pub noSpread : Spread
 noSpread = record { iqr = nearestTo 0 1; «has_iqr» = false }
 
 abbrev pub spread : Point → Point → Spread
-spread (at a) (at b) = record { iqr = nearestTo (b - a) 1; «has_iqr» = true }
-spread (at a) none = noSpread
-spread none q = noSpread
+spread (single a) (single b) = record { iqr = nearestTo (b - a) 1; «has_iqr» = true }
+spread (single a) noPoint = noSpread
+spread noPoint q = noSpread
 
 abbrev pub spreadOf : BracketAnswer → BracketAnswer → Spread
 spreadOf q25 q75 = spread (pointOf q25) (pointOf q75)

@@ -1,6 +1,6 @@
 -- The restricted mean in units of 2^-60, rounded to parts of 2^-36, and its error bound. Definitions.
 use Prim.Native.Nat.{ℕ, _+_, _-_, _*_, _/_, _^_}
-use Rattle.rows.specs.Limits.{unitsPerOne}
+use Rattle.runlength.specs.Scale.{unitsPerOne}
 
 -- parts of 2^-36 in one, and units of 2^-60 in a part
 abbrev pub partsPerOne : ℕ

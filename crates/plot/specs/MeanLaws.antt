@@ -4,7 +4,7 @@ use Prim.Native.Nat.{ℕ, _+_, _-_, _*_, _/_, _%_, _^_, _≤_, _<_}
 use native.Mathlib.Nat.{mul-le-mul}
 use native.Mathlib.Omega.{arith}
 use Rattle.rules.specs.Bounds.{maxStates}
-use Rattle.rows.specs.Limits.{maxHorizon, unitsPerOne}
+use Rattle.runlength.specs.Scale.{maxHorizon, unitsPerOne}
 use Rattle.runlength.specs.Chain.{errorBoundOf}
 use Rattle.plot.specs.Mean.{partsPerOne, unitsPerPart, meanUnits, roundDown, roundUp, maxErrorBound}
 

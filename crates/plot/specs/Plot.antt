@@ -5,7 +5,7 @@ use Prim.Native.Nat.{ℕ, _+_, _≤_, _<_}
 use lib.ListN.{length, take}
 use Rattle.rules.specs.declared.RuleList.{RuleList}
 use Rattle.rules.specs.Bounds.{maxStates}
-use Rattle.rows.specs.Limits.{maxHorizon, unitsPerOne}
+use Rattle.runlength.specs.Scale.{maxHorizon, unitsPerOne}
 use Rattle.table.specs.declared.TableFigures.{TableFigures}
 use Rattle.table.specs.declared.TableAnswer.{TableAnswer}
 use Rattle.table.specs.declared.TableAnswer.the-variants as table

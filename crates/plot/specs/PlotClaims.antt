@@ -9,7 +9,7 @@ use Rattle.rules.specs.declared.RuleList.{RuleList}
 use Rattle.rules.specs.Bounds.{zoneCount}
 use Rattle.rules.specs.Check.{activeRules}
 use Rattle.rules.specs.CheckLaws.{accepted as rules-accepted}
-use Rattle.runlength.specs.Sum.{tab}
+use Rattle.runlength.specs.Sum.{tab, at}
 use Rattle.runlength.specs.Automaton.{exactRestrictedMean}
 use Rattle.runlength.specs.Chain.{pmf, restrictedMean, meanErrorBound}
 use Rattle.runlength.specs.FutureLaws.{future-mean}
@@ -17,11 +17,11 @@ use Rattle.runlength.specs.ListedLaws.{listed-mean-lower, listed-mean-upper}
 use Rattle.states.specs.States.{moves}
 use Rattle.states.specs.Automata.{stateAutomaton, referenceAutomaton}
 use Rattle.states.specs.AutomataLaws.{explored-reference}
-use Rattle.rows.specs.Limits.{unitsPerOne}
+use Rattle.runlength.specs.Scale.{unitsPerOne}
 use Rattle.table.specs.declared.TableFigures.{TableFigures}
 use Rattle.table.specs.declared.TableAnswer.{TableAnswer}
 use Rattle.table.specs.declared.TableAnswer.the-variants as table
-use Rattle.table.specs.Table.{weightOf, stateCount, tableChain, TableResult, tableOf}
+use Rattle.table.specs.Table.{stateCount, tableChain, TableResult, tableOf}
 use Rattle.plot.specs.declared.PlotRecord.{PlotRecord}
 use Rattle.plot.specs.declared.BoxPlotAnswer.{BoxPlotAnswer}
 use Rattle.runlength.specs.Chain.{errorBoundOf}
@@ -66,23 +66,23 @@ module _ (l : RuleList) (w : List ℕ) (h : ℕ) (p s : List ℕ) where
         ∙ ap (λ (u : ℕ). roundUp (u + errorBoundOf (stateCount (activeRules l)) h)) (whole-again (restrictedMean (tableChain (activeRules l) w) h))
 
     -- the plain chart has the mean of the chain of the states met
-    chain-mean : chartMean (activeRules l) w h ≡ exactRestrictedMean (tableChain (activeRules l) w .automaton) (weightOf w) h
+    chain-mean : chartMean (activeRules l) w h ≡ exactRestrictedMean (tableChain (activeRules l) w .automaton) (at w) h
     unfolding stateCount
     chain-mean =
         future-mean (referenceAutomaton (activeRules l)) (tableChain (activeRules l) w .automaton)
-        (explored-reference (activeRules l) (rules-accepted l (c .passed .rules) .2) (c .passed .few-states)) (weightOf w) h
+        (explored-reference (activeRules l) (rules-accepted l (c .passed .rules) .2) (c .passed .few-states)) (at w) h
 
     -- which the table bounds
     mean-lower : restrictedMean (tableChain (activeRules l) w) h * 2 ^ (30 * h) ≤ chartMean (activeRules l) w h * unitsPerOne
     mean-lower =
         rw chain-mean
-        (listed-mean-lower zoneCount (stateCount (activeRules l)) (moves (stateAutomaton (activeRules l))) (weightOf w) (count-some (activeRules l)) (c .passed .weights) h)
+        (listed-mean-lower zoneCount (stateCount (activeRules l)) (moves (stateAutomaton (activeRules l))) (at w) (count-some (activeRules l)) (c .passed .weights) h)
 
     mean-upper : chartMean (activeRules l) w h * unitsPerOne ≤ (restrictedMean (tableChain (activeRules l) w) h + meanErrorBound (tableChain (activeRules l) w) h) * 2 ^ (30 * h)
     unfolding meanErrorBound
     mean-upper =
         rw chain-mean
-        (listed-mean-upper zoneCount (stateCount (activeRules l)) (moves (stateAutomaton (activeRules l))) (weightOf w) (count-some (activeRules l)) (c .passed .weights) h)
+        (listed-mean-upper zoneCount (stateCount (activeRules l)) (moves (stateAutomaton (activeRules l))) (at w) (count-some (activeRules l)) (c .passed .weights) h)
 
   module _ {r : PlotRecord} {f : TableFigures} (m : MadeOf l w h p s f r) where
     made-brackets : ShowsBrackets (tab h (λ k. pmf (tableChain (activeRules l) w) (suc k))) (stateCount (activeRules l)) r

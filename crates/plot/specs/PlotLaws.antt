@@ -8,7 +8,7 @@ use lib.Dec.{lit≤}
 use lib.Ieee.Exact.{HasValue}
 use lib.ListN.{length, take, length-take}
 use Rattle.rules.specs.declared.RuleList.{RuleList}
-use Rattle.rules.specs.declared.Refusal.{Refusal}
+use Rattle.rules.specs.declared.refusal.Refusal.{Refusal}
 use Rattle.table.specs.declared.TableFigures.{TableFigures}
 use Rattle.table.specs.declared.TableAnswer.{TableAnswer}
 use Rattle.table.specs.Table.{TableResult, tableResult, tableOf}
@@ -24,7 +24,7 @@ use Rattle.plot.specs.Mean.{partsPerOne}
 use Rattle.plot.specs.MeanLaws.{error-bound-most, down-fits, up-fits}
 use Rattle.plot.specs.Item.{itemOf, Ordered}
 use Rattle.plot.specs.Shown.{Shows, ShowsBrackets}
-use Rattle.plot.specs.ItemLaws.{shown, not-refused, beyond-length, ordered, quartiles-shown}
+use Rattle.plot.specs.ItemLaws.{shown, ordered, quartiles-shown}
 use Rattle.plot.specs.Plot.{lowerParts, upperParts, recordOf, Plottable, boxPlotResult, plotBy, boxPlotOf}
 use Rattle.table.specs.AcceptedLaws.{accepted-call}
 use Rattle.plot.specs.AcceptedLaws.{accepted-plottable}
@@ -48,13 +48,6 @@ module _ {pmf : List ℕ} {f : TableFigures} {h : ℕ} (c : Plottable pmf f h) w
 
   item-shown : (p : ℕ) → minPercent ≤ p → p ≤ maxPercent → Shows (bracketOf pmf (f .states) p) (itemOf (bracketOf pmf (f .states) p))
   item-shown p low high = shown pmf (f .states) p (brackets-accepted p low high)
-
-  -- no bracket of the record is refused, and one beyond is beyond the horizon
-  pub never-refused : (p : ℕ) → minPercent ≤ p → p ≤ maxPercent → (x : Refusal) → bracketOf pmf (f .states) p ≡ bracket.Refused x → ⊥
-  never-refused p low high = not-refused (item-shown p low high)
-
-  pub beyond-horizon : (p k : ℕ) → minPercent ≤ p → p ≤ maxPercent → bracketOf pmf (f .states) p ≡ bracket.Beyond k → k ≡ h
-  beyond-horizon p k low high e = beyond-length pmf (f .states) p k (brackets-accepted p low high) e ∙ c .many
 
   -- the record shows its brackets exactly
   pub brackets-shown : ShowsBrackets pmf (f .states) (recordOf pmf f h)

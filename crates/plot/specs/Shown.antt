@@ -9,8 +9,8 @@ use Rattle.rules.specs.declared.Rule.{Rule}
 use Rattle.runlength.specs.Automaton.{exactRestrictedMean}
 use Rattle.runlength.specs.Chain.{Chain, restrictedMean, meanErrorBound}
 use Rattle.states.specs.Automata.{referenceAutomaton}
-use Rattle.rows.specs.Limits.{unitsPerOne}
-use Rattle.table.specs.Table.{weightOf}
+use Rattle.runlength.specs.Scale.{unitsPerOne}
+use Rattle.runlength.specs.Sum.{at}
 use Rattle.bracket.specs.declared.BracketAnswer.{BracketAnswer}
 use Rattle.bracket.specs.declared.BracketAnswer.the-variants as bracket
 use Rattle.bracket.specs.Bracket.{bracketOf}
@@ -19,7 +19,7 @@ use Rattle.plot.specs.declared.PlotItem.the-variants as item
 use Rattle.plot.specs.declared.PlotRecord.{PlotRecord}
 use Rattle.plot.specs.declared.Spread.{Spread}
 use Rattle.plot.specs.Mean.{partsPerOne}
-use Rattle.plot.specs.Item.{Point, at, none, pointOf}
+use Rattle.plot.specs.Item.{Point, single, noPoint, pointOf}
 
 -- the item's doubles are finite and exactly the bracket's numbers; no item shows a refusal
 pub data Shows : BracketAnswer → PlotItem → Type 0 where
@@ -30,9 +30,9 @@ pub data Shows : BracketAnswer → PlotItem → Type 0 where
 
 -- the double is exactly the difference of two points, which stand in order, and marked as held; with one point or none it is 0 and not held
 abbrev pub ShowsSpread : Point → Point → Spread → Type 0
-ShowsSpread (at a) (at b) x = (a ≤ b) × HasValue (x .iqr) false (b - a) 1 × (x .«has_iqr» ≡ true)
-ShowsSpread (at a) none x = HasValue (x .iqr) false 0 1 × (x .«has_iqr» ≡ false)
-ShowsSpread none q x = HasValue (x .iqr) false 0 1 × (x .«has_iqr» ≡ false)
+ShowsSpread (single a) (single b) x = (a ≤ b) × HasValue (x .iqr) false (b - a) 1 × (x .«has_iqr» ≡ true)
+ShowsSpread (single a) noPoint x = HasValue (x .iqr) false 0 1 × (x .«has_iqr» ≡ false)
+ShowsSpread noPoint q x = HasValue (x .iqr) false 0 1 × (x .«has_iqr» ≡ false)
 
 -- the record's interquartile range
 abbrev pub spreadIn : PlotRecord → Spread
@@ -49,7 +49,7 @@ pub record ShowsBrackets (pmf : List ℕ) (n : ℕ) (r : PlotRecord) : Type 0 wh
 
 -- the exact mean of the plain chart's run length cut at h, over 2 ^ (30 * h)
 abbrev pub chartMean : List Rule → List ℕ → ℕ → ℕ
-chartMean rs weights h = exactRestrictedMean (referenceAutomaton rs) (weightOf weights) h
+chartMean rs weights h = exactRestrictedMean (referenceAutomaton rs) (at weights) h
 
 -- the record bounds the mean of the run length cut at h, by the table of a chain and by the exact mean, which is e over 2 ^ (30 * h); its
 -- two doubles are finite and exactly `low` and `high` parts of 2^-36

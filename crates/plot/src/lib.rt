@@ -8,7 +8,7 @@ use table::TableFigures;
 ghost use mathlib.Core.Path.{_≡_};
 ghost use Prim.Native.Nat.{_+_, _*_, _^_, _<_, _≤_};
 ghost use Rattle.rules.specs.Bounds.{maxStates};
-ghost use Rattle.rows.specs.Limits.{maxHorizon, unitsPerOne};
+ghost use Rattle.runlength.specs.Scale.{maxHorizon, unitsPerOne};
 ghost use Rattle.bracket.specs.Bracket.{bracketOf};
 ghost use Rattle.plot.specs.Double.{Exactly};
 ghost use Rattle.plot.specs.Item.{itemOf, Ordered, spreadOf};

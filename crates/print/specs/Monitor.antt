@@ -1,8 +1,9 @@
 -- The monitor program's lines. Definitions.
-use Prim.Native.Nat.{ℕ}
+use Prim.Native.Nat.{ℕ, _+_}
 use mathlib.Core.List.{List, [], _∷_, _++_}
+use lib.ListN.{length}
 use Rattle.text.specs.Word.{newline}
-use Rattle.print.specs.Field.{field}
+use Rattle.print.specs.Field.{field, fieldRoom}
 
 -- `quiet`
 abbrev pub quietWord : List ℕ
@@ -28,12 +29,12 @@ signalLine n mask = signalWord ++ field n ++ field mask ++ newline
 unfoldable pub totalLine : ℕ → ℕ → List ℕ
 totalLine points signals = totalWord ++ field points ++ field signals ++ newline
 
--- the most bytes that each has: its word, its fields, LF
+-- the most bytes that each has
 abbrev pub quietRoom : ℕ
-quietRoom = 27
+quietRoom = length quietWord + fieldRoom + length newline
 
 abbrev pub signalRoom : ℕ
-signalRoom = 49
+signalRoom = length signalWord + fieldRoom + fieldRoom + length newline
 
 abbrev pub totalRoom : ℕ
-totalRoom = 48
+totalRoom = length totalWord + fieldRoom + fieldRoom + length newline

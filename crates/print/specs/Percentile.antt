@@ -1,11 +1,12 @@
 -- The table program's bracket lines. Definitions.
-use Prim.Native.Nat.{ℕ}
+use Prim.Native.Nat.{ℕ, _+_, _*_}
 use mathlib.Core.List.{List, [], _∷_, _++_}
+use lib.ListN.{length}
 use Rattle.text.specs.Word.{comma, newline}
 use Rattle.bracket.specs.declared.BracketAnswer.{BracketAnswer}
 use Rattle.bracket.specs.declared.BracketAnswer.the-variants.{Refused, At, Between, Open, Beyond}
 use Rattle.bracket.specs.Bracket.{bracketOf}
-use Rattle.print.specs.Field.{field}
+use Rattle.print.specs.Field.{field, fieldRoom}
 
 -- `q`
 abbrev pub qWord : List ℕ
@@ -53,12 +54,12 @@ percentLines pmf states =
     ++ percentLine pmf states 75
     ++ percentLine pmf states 95
 
--- the most bytes that each has; the longest place is a comma, a word of 7 and two fields
+-- the most bytes that each has; the longest place is `between` with its two fields
 abbrev pub placeRoom : ℕ
-placeRoom = 50
+placeRoom = length comma + length betweenWord + fieldRoom + fieldRoom
 
 abbrev pub bracketRoom : ℕ
-bracketRoom = 73
+bracketRoom = length qWord + fieldRoom + placeRoom + length newline
 
 abbrev pub percentsRoom : ℕ
-percentsRoom = 365
+percentsRoom = 5 * bracketRoom

@@ -1,8 +1,9 @@
 -- The line of a refused text. Definitions.
-use Prim.Native.Nat.{ℕ}
+use Prim.Native.Nat.{ℕ, _+_}
 use mathlib.Core.List.{List, [], _∷_, _++_}
+use lib.ListN.{length}
 use Rattle.text.specs.Word.{newline}
-use Rattle.print.specs.Field.{field}
+use Rattle.print.specs.Field.{field, fieldRoom}
 
 -- `refused`
 abbrev pub refusedWord : List ℕ
@@ -12,6 +13,6 @@ refusedWord = 114 ∷ 101 ∷ 102 ∷ 117 ∷ 115 ∷ 101 ∷ 100 ∷ []
 unfoldable pub refusedLine : ℕ → ℕ → List ℕ
 refusedLine number place = refusedWord ++ field number ++ field place ++ newline
 
--- the most bytes it has: a word of 7, two fields, LF
+-- the most bytes that it has
 abbrev pub refusedRoom : ℕ
-refusedRoom = 50
+refusedRoom = length refusedWord + fieldRoom + fieldRoom + length newline

@@ -1,11 +1,11 @@
 -- The table program's lines, but for the brackets. Definitions.
-use Prim.Native.Nat.{ℕ, zero, suc}
+use Prim.Native.Nat.{ℕ, zero, suc, _+_}
 use mathlib.Core.List.{List, [], _∷_, _++_}
-use lib.ListN.{getD}
-use Rattle.text.specs.Decimal.{decimal}
+use lib.ListN.{length, getD}
+use Rattle.text.specs.Decimal.{decimal, numberRoom}
 use Rattle.text.specs.Word.{comma, newline}
 use Rattle.bracket.specs.Bracket.{cdfOf}
-use Rattle.print.specs.Field.{field}
+use Rattle.print.specs.Field.{field, fieldRoom}
 
 -- `standings`
 abbrev pub standingsWord : List ℕ
@@ -53,15 +53,15 @@ tableRows (suc n) pmf survival =
 unfoldable pub arlLine : ℕ → ℕ → ℕ → List ℕ
 arlLine whole fraction error = arlWord ++ field whole ++ field fraction ++ field error ++ newline
 
--- the most bytes that each has: its word, its numbers, commas and LF
+-- the most bytes that each has
 abbrev pub standingsRoom : ℕ
-standingsRoom = 31
+standingsRoom = length standingsWord + fieldRoom + length newline
 
 abbrev pub headerRoom : ℕ
-headerRoom = 17
+headerRoom = length headerLine
 
 abbrev pub rowRoom : ℕ
-rowRoom = 84
+rowRoom = numberRoom + fieldRoom + fieldRoom + fieldRoom + length newline
 
 abbrev pub arlRoom : ℕ
-arlRoom = 67
+arlRoom = length arlWord + fieldRoom + fieldRoom + fieldRoom + length newline

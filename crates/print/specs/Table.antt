@@ -1,10 +1,10 @@
 -- All that the table program prints. Definitions.
-use Prim.Native.Nat.{ℕ}
+use Prim.Native.Nat.{ℕ, _+_, _*_}
 use mathlib.Core.List.{List, _++_}
 use lib.ListN.{take}
 use Rattle.runlength.specs.Chain.{errorBoundOf}
-use Rattle.print.specs.Row.{standingsLine, headerLine, tableRows, arlLine}
-use Rattle.print.specs.Percentile.{percentLines}
+use Rattle.print.specs.Row.{standingsLine, standingsRoom, headerLine, headerRoom, rowRoom, tableRows, arlLine, arlRoom}
+use Rattle.print.specs.Percentile.{percentLines, percentsRoom}
 
 -- N standings, h rows of the chances and of what is left, the mean's whole part and fraction, the five brackets of the h chances
 unfoldable pub tableBytes : ℕ → ℕ → List ℕ → List ℕ → ℕ → ℕ → List ℕ
@@ -19,6 +19,6 @@ tableBytes states h pmf survival whole fraction =
 abbrev pub maxRows : ℕ
 maxRows = 4096
 
--- the most bytes: 84 for each row, and 512 for all other lines
+-- the most bytes
 abbrev pub tableRoom : ℕ
-tableRoom = 344576
+tableRoom = standingsRoom + headerRoom + rowRoom * maxRows + arlRoom + percentsRoom

@@ -4,6 +4,7 @@ mod brackets;
 mod field;
 mod monitor;
 mod refused;
+mod rooms;
 mod rows;
 mod table;
 
@@ -11,5 +12,9 @@ pub use monitor::put_quiet;
 pub use monitor::put_signal;
 pub use monitor::put_total;
 pub use refused::put_refused;
-pub use table::TABLE_ROOM;
+pub use rooms::MAX_ROWS;
+pub use rooms::POINT_ROOM;
+pub use rooms::REFUSED_ROOM;
+pub use rooms::TABLE_ROOM;
+pub use rooms::TOTAL_ROOM;
 pub use table::put_table;

@@ -4,9 +4,10 @@ use crate::field::put_named;
 use text::put_byte;
 use text::put_bytes;
 use text::put_number;
-ghost use Prim.Native.Nat.{_+_, _*_, _≤_, _^_};
+ghost use Prim.Native.Nat.{_+_, _*_, _≤_};
 ghost use lib.ListN.{length};
 ghost use Rattle.text.specs.Wrote.{Wrote};
+ghost use Rattle.runlength.specs.Scale.{unitsPerOne};
 ghost use Rattle.bracket.specs.Bracket.{cdfOf};
 ghost use Rattle.print.specs.Row.{standingsLine, standingsRoom, headerLine, headerRoom, rowLine, rowRoom, tableRows};
 ghost use Rattle.print.specs.Row.{arlLine, arlRoom};
@@ -43,11 +44,11 @@ fn put_row(out: &mut [u8], at: usize, n: u64, probability: u64, by: u64, left: u
     put_byte(out, d, b'\n')
 }
 
-// The rows 1 to h, by the chances and what is left; the sum of the chances is at most probability one, 2^60 units.
+// The rows 1 to h, by the chances and what is left; the sum of the chances is at most probability one.
 pub fn put_rows(out: &mut [u8], at: usize, h: usize, pmf: &[u64], survival: &[u64]) -> usize
     requires { ⌜ at + rowRoom * h ≤ length (now out) ⌝ }
     requires { ⌜ (h ≤ length (now pmf)) × (h ≤ length (now survival)) ⌝ }
-    requires { ⌜ cdfOf (now pmf) h ≤ 2 ^ 60 ⌝ }
+    requires { ⌜ cdfOf (now pmf) h ≤ unitsPerOne ⌝ }
     ensures { λ r. ⌜ Wrote (now (out .entry)) at (now (out .exit)) r (tableRows h (now (pmf .entry)) (now (survival .entry))) ⌝ }
     ensures { λ r. ⌜ r ≤ at + rowRoom * h ⌝ }
 {

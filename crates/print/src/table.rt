@@ -5,15 +5,13 @@ use crate::rows::put_header;
 use crate::rows::put_rows;
 use crate::rows::put_standings;
 ghost use mathlib.Core.Path.{_≡_};
-ghost use Prim.Native.Nat.{_≤_, _^_};
+ghost use Prim.Native.Nat.{_≤_};
 ghost use lib.ListN.{length};
 ghost use Rattle.text.specs.Wrote.{Wrote};
 ghost use Rattle.bracket.specs.Bracket.{cdfOf};
 ghost use Rattle.runlength.specs.Chain.{errorBoundOf};
+ghost use Rattle.runlength.specs.Scale.{unitsPerOne};
 ghost use Rattle.print.specs.Table.{tableBytes, maxRows, tableRoom};
-
-// A buffer of so many bytes has room for every table: 84 for each of 4,096 rows, and 512 for all other lines.
-pub const TABLE_ROOM: usize = 84 * 4096 + 512;
 
 // The error bound of the cut mean (document 01's allowed shortfall), in units.
 fn error_bound(states: u32, h: usize) -> u64
@@ -36,7 +34,7 @@ pub fn put_table(
     requires { ⌜ tableRoom ≤ length (now out) ⌝ }
     requires { ⌜ (1 ≤ horizon) × (horizon ≤ maxRows) ⌝ }
     requires { ⌜ (horizon ≤ length (now pmf)) × (horizon ≤ length (now survival)) ⌝ }
-    requires { ⌜ cdfOf (now pmf) horizon ≤ 2 ^ 60 ⌝ }
+    requires { ⌜ cdfOf (now pmf) horizon ≤ unitsPerOne ⌝ }
     ensures { λ r. ⌜ Wrote (now (out .entry)) 0 (now (out .exit)) r
         (tableBytes states horizon (now (pmf .entry)) (now (survival .entry)) «mean_whole» «mean_fraction») ⌝ }
     ensures { λ r. ⌜ r ≤ tableRoom ⌝ }

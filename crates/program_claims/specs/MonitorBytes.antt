@@ -19,7 +19,8 @@ use Rattle.text.specs.Line.{lineAt}
 use Rattle.text.specs.LineLaws.{line-stands, line-beyond}
 use Rattle.text.specs.OnLine.{onChart, onRule, onPoint}
 use Rattle.parse.specs.declared.monitors.MonitorText.{MonitorText}
-use Rattle.parse.specs.Limits.{maxText, badLine, tooLong}
+use Rattle.rules.specs.Refusal.{badLine, tooLong}
+use Rattle.text.specs.Size.{maxText}
 use Rattle.parse.specs.Rules.{rulesAt, afterRules}
 use Rattle.parse.specs.RulesLaws.{rules-end}
 use Rattle.parse.specs.Readings.{readingsAt, afterPoints}

@@ -10,19 +10,20 @@ use lib.ListN.{length}
 use borrow.Author.Tests.{le-leb}
 use Rattle.rules.specs.declared.Rule.{Rule}
 use Rattle.rules.specs.declared.RuleList.{RuleList}
-use Rattle.rules.specs.declared.Refusal.{Refusal}
+use Rattle.rules.specs.declared.refusal.Refusal.{Refusal}
 use Rattle.rules.specs.declared.Checked.{Checked}
 use Rattle.rules.specs.declared.Checked.the-variants.{Accepted, Refused}
 use Rattle.rules.specs.Refusal.{badSigma}
 use Rattle.rules.specs.Check.{activeRules, checkOf, within}
 use Rattle.rules.specs.CheckLaws.{between}
 use Rattle.monitor.specs.Zone.{minSigma, maxSigma}
-use Rattle.monitor.specs.Step.{maxCount, freshMonitor}
+use Rattle.rules.specs.Bounds.{maxNumber}
+use Rattle.monitor.specs.Step.{freshMonitor}
 use Rattle.monitor.specs.ReferenceChart.{quiet, signal, rowMask, charted}
 use Rattle.monitor.specs.Calls.{monitorAnswers, EachAnswer}
 use Rattle.monitor.specs.Agreement.{agreement}
 use Rattle.parse.specs.declared.monitors.MonitorText.{MonitorText}
-use Rattle.parse.specs.Rules.{listOf}
+use Rattle.parse.specs.Rules.{ruleListOf}
 use Rattle.parse.specs.RulesLaws.{active-rules}
 use Rattle.parse.specs.ReadingsLaws.{points-fit}
 use Rattle.parse.specs.MonitorText.{refusedMonitor, readMonitor, monitorText, monitorReadings}
@@ -49,7 +50,7 @@ free-said rs (z ∷ zs) row = (go (eqb (rowMask rs (z ∷ row)) 0), free-said rs
     go true = tt
     go false = tt
 
-module _ (l : RuleList) (ok : checkOf l ≡ Accepted) (centre : ℤ) (sigma : ℕ) (xs : List ℤ) (few : length xs ≤ maxCount) where
+module _ (l : RuleList) (ok : checkOf l ≡ Accepted) (centre : ℤ) (sigma : ℕ) (xs : List ℤ) (few : length xs ≤ maxNumber) where
   zs : List ℕ
   zs = zonesOf centre sigma xs
 
@@ -76,23 +77,23 @@ outside low high x e i =
     let z : _≡_ {A = ℕ} 0 1 = cc in
     omega arith
 
-module _ (s : List ℕ) (centre : ℤ) (sigma : ℕ) (rs : List Rule) (xs : List ℤ) (is : MonitorTextIs s centre sigma rs xs) (few : length xs ≤ maxCount) where
-  by-sigma : checkOf (listOf rs) ≡ Accepted → (t : Bool) → within minSigma maxSigma sigma ≡ t
-      → MonitorProgram s (printedBytes (cond t (lines (pointsBytes (readingAnswers (listOf rs) centre sigma xs))) (refusedBy badSigma)))
+module _ (s : List ℕ) (centre : ℤ) (sigma : ℕ) (rs : List Rule) (xs : List ℤ) (is : MonitorTextIs s centre sigma rs xs) (few : length xs ≤ maxNumber) where
+  by-sigma : checkOf (ruleListOf rs) ≡ Accepted → (t : Bool) → within minSigma maxSigma sigma ≡ t
+      → MonitorProgram s (printedBytes (cond t (lines (pointsBytes (readingAnswers (ruleListOf rs) centre sigma xs))) (refusedBy badSigma)))
   unfolding printedBytes
   by-sigma ok true e =
       monitor-prints centre sigma rs xs is ok (between minSigma maxSigma sigma e)
-      (same-points (active-rules rs (rules-few rs ok)) (points-printed (listOf rs) ok centre sigma xs few))
+      (same-points (active-rules rs (rules-few rs ok)) (points-printed (ruleListOf rs) ok centre sigma xs few))
   by-sigma ok false e = monitor-refuses 1 0 refl (bad-sigma centre sigma rs xs is ok (outside minSigma maxSigma sigma e))
 
-  by-check : (c : Checked) → checkOf (listOf rs) ≡ c
-      → MonitorProgram s (printedBytes (checkedBy c (cond (within minSigma maxSigma sigma) (lines (pointsBytes (readingAnswers (listOf rs) centre sigma xs))) (refusedBy badSigma))))
+  by-check : (c : Checked) → checkOf (ruleListOf rs) ≡ c
+      → MonitorProgram s (printedBytes (checkedBy c (cond (within minSigma maxSigma sigma) (lines (pointsBytes (readingAnswers (ruleListOf rs) centre sigma xs))) (refusedBy badSigma))))
   unfolding printedBytes
   by-check Accepted e = by-sigma e (within minSigma maxSigma sigma) refl
-  by-check (Refused x) e = monitor-refuses (x .number) (x .place) refl (bad-rules centre sigma rs xs x is e (list-number (listOf rs) x e))
+  by-check (Refused x) e = monitor-refuses (x .number) (x .place) refl (bad-rules centre sigma rs xs x is e (list-number (ruleListOf rs) x e))
 
 -- a text has few points
-text-few : {s : List ℕ} {centre : ℤ} {sigma : ℕ} {rs : List Rule} {xs : List ℤ} → MonitorTextIs s centre sigma rs xs → length xs ≤ maxCount
+text-few : {s : List ℕ} {centre : ℤ} {sigma : ℕ} {rs : List Rule} {xs : List ℤ} → MonitorTextIs s centre sigma rs xs → length xs ≤ maxNumber
 text-few {s} {centre} {sigma} {rs} {xs} t =
     let m = monitor-read t in
     omega (arith, points-fit (length s) s (monitorText s .points), ap length (m .2), t .short)
@@ -108,10 +109,10 @@ monitor-program s = go (monitorText s) (monitor-reading s) (monitorReadings s) (
         → MonitorProgram s (printedBytes (cond (eqb (t .refusal .number) 0) (chartPrinted (t .list) (t .centre) (t .sigma) ys) (refusedBy (t .refusal))))
     go t (too-long l) ys f = monitor-refuses 17 0 refl (monitor-too-long l)
     go t (stopped front rest place l e st p) ys f = monitor-refuses 16 place refl (monitor-bad-line front rest place l e st p)
-    go t (read c d rs at xs i e) ys f = rw (f c d rs xs i) (by-check s c d rs xs i (text-few i) (checkOf (listOf rs)) refl)
+    go t (read c d rs at xs i e) ys f = rw (f c d rs xs i) (by-check s c d rs xs i (text-few i) (checkOf (ruleListOf rs)) refl)
 
 -- The other way round: a text that is the lines of a chart, rules and readings which are in bounds is not refused.
-pub monitor-printed : {s : List ℕ} {c : ℤ} {d : ℕ} {rs : List Rule} {xs : List ℤ} → MonitorTextIs s c d rs xs → checkOf (listOf rs) ≡ Accepted
+pub monitor-printed : {s : List ℕ} {c : ℤ} {d : ℕ} {rs : List Rule} {xs : List ℤ} → MonitorTextIs s c d rs xs → checkOf (ruleListOf rs) ≡ Accepted
     → (minSigma ≤ d) × (d ≤ maxSigma) → MonitorPrints c d rs xs (printedBytes (monitorPrinted s))
 unfolding refusedMonitor readMonitor
 monitor-printed {s} {c} {d} {rs} {xs} is ok bounds = go (monitor-program s)
@@ -119,9 +120,9 @@ monitor-printed {s} {c} {d} {rs} {xs} is ok bounds = go (monitor-program s)
     clash : {A : Type 0} {t : MonitorText} → monitorText s ≡ t → (t .refusal .number ≡ 0 → ⊥) → A
     clash e n = absurd (n (ap (λ (t : MonitorText). t .refusal .number) (sym e ∙ monitor-read is .1)))
 
-    checked : {c′ : ℤ} {d′ : ℕ} {rs′ : List Rule} {xs′ : List ℤ} {x : Refusal} → MonitorTextIs s c′ d′ rs′ xs′ → checkOf (listOf rs′) ≡ Refused x → ⊥
+    checked : {c′ : ℤ} {d′ : ℕ} {rs′ : List Rule} {xs′ : List ℤ} {x : Refusal} → MonitorTextIs s c′ d′ rs′ xs′ → checkOf (ruleListOf rs′) ≡ Refused x → ⊥
     checked {c′} {d′} {rs′} {xs′} {x} is′ e =
-        let q : checkOf (listOf rs) ≡ Refused x = rw (monitor-text-once is is′ .2) e in
+        let q : checkOf (ruleListOf rs) ≡ Refused x = rw (monitor-text-once is is′ .2) e in
         let z : _≡_ {A = ℕ} 0 1 = cc in
         omega arith
 

@@ -5,7 +5,7 @@ use mathlib.Core.List.{List, [], _∷_, _++_}
 use lib.IntN.{ℤ}
 use lib.ListN.{length}
 use Rattle.rules.specs.declared.Rule.{Rule}
-use Rattle.rules.specs.declared.Refusal.{Refusal}
+use Rattle.rules.specs.declared.refusal.Refusal.{Refusal}
 use Rattle.rules.specs.declared.Checked.the-variants.{Accepted, Refused}
 use Rattle.rules.specs.Check.{checkOf}
 use Rattle.runlength.specs.Chain.{pmf, cdf, survival, restrictedMean}
@@ -16,8 +16,8 @@ use Rattle.table.specs.Table.{stateCount, tableChain, tableCheck}
 use Rattle.bracket.specs.declared.BracketAnswer.{BracketAnswer}
 use Rattle.text.specs.declared.lines.ZoneWeights.{ZoneWeights}
 use Rattle.text.specs.Format.{weightList}
-use Rattle.parse.specs.Limits.{maxText}
-use Rattle.parse.specs.Rules.{listOf}
+use Rattle.text.specs.Size.{maxText}
+use Rattle.parse.specs.Rules.{ruleListOf}
 use Rattle.print.specs.Refused.{refusedLine}
 use Rattle.print.specs.Row.{standingsLine, headerLine, rowLine, arlLine}
 use Rattle.print.specs.Percentile.{bracketLine}
@@ -92,7 +92,7 @@ pub data TableRefusal (s : List ℕ) : ℕ → ℕ → Type 0 where
   bad-line : (front rest : List ℕ) (place : ℕ) → length s ≤ maxText → s ≡ front ++ rest → TableStops front rest → place ≡ 1 + newlines front
       → TableRefusal s 16 place
   bad-table : (w : ZoneWeights) (rs : List Rule) (h : ℕ) (x : Refusal) → TableTextIs s w rs h
-      → tableCheck (listOf rs) (weightList w) (reportHorizon h) maxRows maxRows ≡ Refused x
+      → tableCheck (ruleListOf rs) (weightList w) (reportHorizon h) maxRows maxRows ≡ Refused x
       → OneOf (2 ∷ 3 ∷ 4 ∷ 8 ∷ 9 ∷ 10 ∷ []) (x .number) → TableRefusal s (x .number) (x .place)
 
 -- what the table program prints for the text s
@@ -101,7 +101,7 @@ pub data TableProgram (s : List ℕ) (printed : List ℕ) : Type 0 where
   refuses : (number place : ℕ) → printed ≡ refusedLine number place → TableRefusal s number place → TableProgram s printed
   -- the lines of figures that hold of the weights, rules and horizon whose lines the text is
   prints : (w : ZoneWeights) (rs : List Rule) (h : ℕ) (f : Figures) → TableTextIs s w rs h
-      → tableCheck (listOf rs) (weightList w) h maxRows maxRows ≡ Accepted
+      → tableCheck (ruleListOf rs) (weightList w) h maxRows maxRows ≡ Accepted
       → printed ≡ figureLines h f → FiguresHold (weightList w) rs h f → TableProgram s printed
 
 -- ---- the monitor program
@@ -124,12 +124,12 @@ pub data MonitorRefusal (s : List ℕ) : ℕ → ℕ → Type 0 where
   bad-line : (front rest : List ℕ) (place : ℕ) → length s ≤ maxText → s ≡ front ++ rest → MonitorStops front rest → place ≡ 1 + newlines front
       → MonitorRefusal s 16 place
   bad-rules : (centre : ℤ) (sigma : ℕ) (rs : List Rule) (xs : List ℤ) (x : Refusal) → MonitorTextIs s centre sigma rs xs
-      → checkOf (listOf rs) ≡ Refused x → OneOf (2 ∷ 3 ∷ 4 ∷ []) (x .number) → MonitorRefusal s (x .number) (x .place)
+      → checkOf (ruleListOf rs) ≡ Refused x → OneOf (2 ∷ 3 ∷ 4 ∷ []) (x .number) → MonitorRefusal s (x .number) (x .place)
   bad-sigma : (centre : ℤ) (sigma : ℕ) (rs : List Rule) (xs : List ℤ) → MonitorTextIs s centre sigma rs xs
-      → checkOf (listOf rs) ≡ Accepted → ((minSigma ≤ sigma) × (sigma ≤ maxSigma) → ⊥) → MonitorRefusal s 1 0
+      → checkOf (ruleListOf rs) ≡ Accepted → ((minSigma ≤ sigma) × (sigma ≤ maxSigma) → ⊥) → MonitorRefusal s 1 0
 
 pub data MonitorProgram (s : List ℕ) (printed : List ℕ) : Type 0 where
   refuses : (number place : ℕ) → printed ≡ refusedLine number place → MonitorRefusal s number place → MonitorProgram s printed
   prints : (centre : ℤ) (sigma : ℕ) (rs : List Rule) (xs : List ℤ) → MonitorTextIs s centre sigma rs xs
-      → checkOf (listOf rs) ≡ Accepted → (minSigma ≤ sigma) × (sigma ≤ maxSigma)
+      → checkOf (ruleListOf rs) ≡ Accepted → (minSigma ≤ sigma) × (sigma ≤ maxSigma)
       → MonitorPrints centre sigma rs xs printed → MonitorProgram s printed

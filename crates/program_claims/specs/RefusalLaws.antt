@@ -9,17 +9,15 @@ use lib.Dec.{leb, eqb}
 use borrow.Author.Tests.{le-leb}
 use Rattle.rules.specs.declared.Rule.{Rule}
 use Rattle.rules.specs.declared.RuleList.{RuleList}
-use Rattle.rules.specs.declared.Refusal.{Refusal}
+use Rattle.rules.specs.declared.refusal.Refusal.{Refusal}
 use Rattle.rules.specs.declared.Checked.{Checked}
 use Rattle.rules.specs.declared.Checked.the-variants.{Accepted, Refused}
 use Rattle.rules.specs.Bounds.{zoneCount, minRules, maxRules, minWindow, maxWindow, minHits, minZoneSet, maxZoneSet, maxStates}
-use Rattle.rules.specs.Refusal.{badRuleCount, badRuleBounds, badZoneSet}
+use Rattle.rules.specs.Refusal.{badRuleCount, badRuleBounds, badZoneSet, badWeights, badHorizon, tooManyStates, shortList}
 use Rattle.rules.specs.Check.{within, checkRule, orElse, checkRules, activeRules, checkOf}
-use Rattle.runlength.specs.Sum.{sum}
-use Rattle.rows.specs.Limits.{maxHorizon, weightTotal}
-use Rattle.table.specs.Limits.{minHorizon}
-use Rattle.table.specs.Refusal.{badWeights, badHorizon, tooManyStates, shortList}
-use Rattle.table.specs.Table.{weightOf, stateCount, unless, tableCheck}
+use Rattle.runlength.specs.Sum.{sum, at}
+use Rattle.runlength.specs.Scale.{maxHorizon, weightTotal, minHorizon}
+use Rattle.table.specs.Table.{stateCount, unless, tableCheck}
 use Rattle.program_claims.specs.Programs.{OneOf, here, there}
 
 -- a refusal of two checks in a row is one of theirs
@@ -89,7 +87,7 @@ pub table-number : (l : RuleList) (w : List ℕ) (h m n : ℕ) (x : Refusal) →
     → OneOf (2 ∷ 3 ∷ 4 ∷ 8 ∷ 9 ∷ 10 ∷ []) (x .number)
 unfolding tableCheck
 table-number l w h m n x i j e =
-    let weights = eqb (sum zoneCount (weightOf w)) weightTotal in
+    let weights = eqb (sum zoneCount (at w)) weightTotal in
     let horizon = within minHorizon maxHorizon h in
     let states = leb (stateCount (activeRules l)) maxStates in
     on-both _ (checkOf l) _ x (λ q. more-numbers (list-number l x q))

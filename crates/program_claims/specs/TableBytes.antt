@@ -21,8 +21,9 @@ use Rattle.text.specs.Line.{zoneWeights, lineAt}
 use Rattle.text.specs.LineLaws.{line-stands}
 use Rattle.text.specs.OnLine.{onWeights, onRule, onHorizon}
 use Rattle.parse.specs.declared.tables.TableText.{TableText}
-use Rattle.parse.specs.Limits.{maxText, badLine, tooLong}
-use Rattle.parse.specs.Rules.{rulesAt, afterRules, listOf}
+use Rattle.rules.specs.Refusal.{badLine, tooLong}
+use Rattle.text.specs.Size.{maxText}
+use Rattle.parse.specs.Rules.{rulesAt, afterRules, ruleListOf}
 use Rattle.parse.specs.RulesLaws.{rules-end, active-rules}
 use Rattle.parse.specs.TableText.{refusedTable, readTable, tableEnd, tableText}
 use Rattle.program_claims.specs.Texts.{weightsLine, horizonLine, ruleLines, RulesInRange, TableTextIs, newlines, weights, rule, horizon, kindOf, kindNumber, Begins}
@@ -155,13 +156,13 @@ table-accepted s z = go (tableText s) (table-reading s) z
 
 -- The same by the equation with what is read, for the rules that a list has slots for.
 pub table-exactly : {s : List ℕ} {w : ZoneWeights} {rs : List Rule} {h : ℕ} → length rs ≤ maxRules → tableText s ≡ readTable w rs h → TableTextIs s w rs h
-unfolding readTable listOf
+unfolding readTable ruleListOf
 table-exactly {s} {w} {rs} {h} few e =
     let a = table-accepted s (ap (λ (t : TableText). t .refusal .number) e) in
     let same : readTable (a .0) (a .1) (a .2) ≡ readTable w rs h = sym (table-read (a .3)) ∙ e in
     let ws : a .0 ≡ w = ap (λ (t : TableText). zoneWeights (t .weights)) same in
     let count : length (a .1) ≡ length rs = ap (λ (t : TableText). t .list .len) same in
-    let list : activeRules (listOf (a .1)) ≡ activeRules (listOf rs) = ap (λ (t : TableText). activeRules (t .list)) same in
+    let list : activeRules (ruleListOf (a .1)) ≡ activeRules (ruleListOf rs) = ap (λ (t : TableText). activeRules (t .list)) same in
     let rules : a .1 ≡ rs = sym (active-rules (a .1) (omega arith)) ∙ list ∙ active-rules rs few in
     let hs : a .2 ≡ h = ap (λ (t : TableText). t .horizon) same in
     put ws rules hs (a .3)

@@ -11,7 +11,7 @@ use lib.Seq.{getD-take}
 use borrow.Author.Tests.{leb-true}
 use Rattle.rules.specs.declared.Rule.{Rule}
 use Rattle.rules.specs.declared.RuleList.{RuleList}
-use Rattle.rules.specs.declared.Refusal.{Refusal}
+use Rattle.rules.specs.declared.refusal.Refusal.{Refusal}
 use Rattle.rules.specs.declared.Checked.{Checked}
 use Rattle.rules.specs.declared.Checked.the-variants.{Accepted, Refused}
 use Rattle.rules.specs.Bounds.{maxRules}
@@ -20,7 +20,7 @@ use Rattle.rules.specs.CheckLaws.{accepted}
 use Rattle.runlength.specs.SumLaws.{sum-cong}
 use Rattle.runlength.specs.TabLaws.{getD-tab}
 use Rattle.runlength.specs.Chain.{pmf, cdf, survival, restrictedMean}
-use Rattle.rows.specs.Limits.{unitsPerOne}
+use Rattle.runlength.specs.Scale.{unitsPerOne}
 use Rattle.table.specs.declared.TableFigures.{TableFigures}
 use Rattle.table.specs.declared.TableAnswer.{TableAnswer}
 use Rattle.table.specs.Table.{tableCheck, tableOf}
@@ -29,7 +29,7 @@ use Rattle.bracket.specs.Bracket.{cdfOf, bracketOf}
 use Rattle.text.specs.declared.lines.ZoneWeights.{ZoneWeights}
 use Rattle.text.specs.Format.{weightList}
 use Rattle.parse.specs.declared.tables.TableText.{TableText}
-use Rattle.parse.specs.Rules.{listOf}
+use Rattle.parse.specs.Rules.{ruleListOf}
 use Rattle.parse.specs.RulesLaws.{active-rules}
 use Rattle.parse.specs.TableText.{refusedTable, readTable, tableText}
 use Rattle.print.specs.Row.{rowLine, tableRows}
@@ -154,9 +154,9 @@ horizon-kept h i = go (leb h maxRows) refl i
 -- ---- the program
 
 -- an accepted list has slots for all its rules
-pub rules-few : (rs : List Rule) → checkOf (listOf rs) ≡ Accepted → length rs ≤ maxRules
-unfolding listOf
-rules-few rs q = accepted (listOf rs) q .1
+pub rules-few : (rs : List Rule) → checkOf (ruleListOf rs) ≡ Accepted → length rs ≤ maxRules
+unfolding ruleListOf
+rules-few rs q = accepted (ruleListOf rs) q .1
 
 same-figures : {w : List ℕ} {rs rs′ : List Rule} {h h′ : ℕ} {f : Figures} → rs ≡ rs′ → h ≡ h′ → FiguresHold w rs h f → FiguresHold w rs′ h′ f
 same-figures p q t = rw (← p, ← q) t
@@ -168,14 +168,14 @@ same-check : (l : RuleList) (w : List ℕ) {h h′ m m′ : ℕ} → h ≡ h′ 
 same-check l w p q t = rw (← p, ← q) t
 
 module _ (s : List ℕ) (w : ZoneWeights) (rs : List Rule) (h : ℕ) (is : TableTextIs s w rs h) where
-  by-answer : (a : TableAnswer) → tableOf (listOf rs) (weightList w) (reportHorizon h) blank blank .answer ≡ a
-      → TableProgram s (printedBytes (tableLines a (reportHorizon h) (tableOf (listOf rs) (weightList w) (reportHorizon h) blank blank .pmfList)
-      (tableOf (listOf rs) (weightList w) (reportHorizon h) blank blank .survivalList)))
+  by-answer : (a : TableAnswer) → tableOf (ruleListOf rs) (weightList w) (reportHorizon h) blank blank .answer ≡ a
+      → TableProgram s (printedBytes (tableLines a (reportHorizon h) (tableOf (ruleListOf rs) (weightList w) (reportHorizon h) blank blank .pmfList)
+      (tableOf (ruleListOf rs) (weightList w) (reportHorizon h) blank blank .survivalList)))
   unfolding printedBytes
   by-answer (TableAnswer.Accepted f) e =
-      let c = accepted-call (listOf rs) (weightList w) (reportHorizon h) blank blank f e in
+      let c = accepted-call (ruleListOf rs) (weightList w) (reportHorizon h) blank blank f e in
       let k = horizon-kept h (c .low) in
-      let l = listOf rs in
+      let l = ruleListOf rs in
       let v = weightList w in
       let H = reportHorizon h in
       table-prints w rs h (figures l v H blank blank f e) is
@@ -183,10 +183,10 @@ module _ (s : List ℕ) (w : ZoneWeights) (rs : List Rule) (h : ℕ) (is : Table
       (lines-are l v H blank blank f e ∙ ap (λ n. figureLines n (figures l v H blank blank f e)) (k .0))
       (same-figures (active-rules rs (rules-few rs (c .rules))) (k .0) (figures-hold l v H blank blank f e))
   by-answer (TableAnswer.Refused x) e =
-      let c : tableCheck (listOf rs) (weightList w) (reportHorizon h) maxRows maxRows ≡ Refused x =
-      rw blank-length at (check-refused (listOf rs) (weightList w) (reportHorizon h) blank blank x e) in
+      let c : tableCheck (ruleListOf rs) (weightList w) (reportHorizon h) maxRows maxRows ≡ Refused x =
+      rw blank-length at (check-refused (ruleListOf rs) (weightList w) (reportHorizon h) blank blank x e) in
       table-refuses (x .number) (x .place) refl
-      (bad-table w rs h x is c (table-number (listOf rs) (weightList w) (reportHorizon h) maxRows maxRows x (horizon-small h) (horizon-small h) c))
+      (bad-table w rs h x is c (table-number (ruleListOf rs) (weightList w) (reportHorizon h) maxRows maxRows x (horizon-small h) (horizon-small h) c))
 
 -- For every text: one refusal line, with the number and the place of a reason that holds of the text; or the text is the lines of weights w,
 -- rules rs and a horizon h, and what is printed is the lines of figures that bound the exact ones of w, rs and h as demand 3 says.
@@ -198,11 +198,11 @@ table-program s = go (tableText s) (table-reading s)
         (linesOf (tableOf (t .list) (t .weights) (reportHorizon (t .horizon)) blank blank) (reportHorizon (t .horizon))) (refusedBy (t .refusal))))
     go t (too-long l) = table-refuses 17 0 refl (table-too-long l)
     go t (stopped front rest place l e st p) = table-refuses 16 place refl (table-bad-line front rest place l e st p)
-    go t (read w rs h i) = by-answer s w rs h i (tableOf (listOf rs) (weightList w) (reportHorizon h) blank blank .answer) refl
+    go t (read w rs h i) = by-answer s w rs h i (tableOf (ruleListOf rs) (weightList w) (reportHorizon h) blank blank .answer) refl
 
 -- The other way round: a text that is the lines of weights, rules and a horizon which the table operation takes is not refused.
 pub table-printed : {s : List ℕ} {w : ZoneWeights} {rs : List Rule} {h : ℕ} → TableTextIs s w rs h
-    → tableCheck (listOf rs) (weightList w) (reportHorizon h) maxRows maxRows ≡ Accepted
+    → tableCheck (ruleListOf rs) (weightList w) (reportHorizon h) maxRows maxRows ≡ Accepted
     → (f : Figures) × (printedBytes (tablePrinted s) ≡ figureLines h f) × FiguresHold (weightList w) rs h f
 unfolding refusedTable readTable
 table-printed {s} {w} {rs} {h} is ok = go (table-program s)
@@ -211,10 +211,10 @@ table-printed {s} {w} {rs} {h} is ok = go (table-program s)
     clash e n = absurd (n (ap (λ (t : TableText). t .refusal .number) (sym e ∙ table-read is)))
 
     checked : {w′ : ZoneWeights} {rs′ : List Rule} {h′ : ℕ} {x : Refusal} → TableTextIs s w′ rs′ h′
-        → tableCheck (listOf rs′) (weightList w′) (reportHorizon h′) maxRows maxRows ≡ Refused x → ⊥
+        → tableCheck (ruleListOf rs′) (weightList w′) (reportHorizon h′) maxRows maxRows ≡ Refused x → ⊥
     checked {w′} {rs′} {h′} {x} is′ e =
         let o = table-text-once is is′ in
-        let q : tableCheck (listOf rs) (weightList w) (reportHorizon h) maxRows maxRows ≡ Refused x = rw (o .0, o .1, o .2) e in
+        let q : tableCheck (ruleListOf rs) (weightList w) (reportHorizon h) maxRows maxRows ≡ Refused x = rw (o .0, o .1, o .2) e in
         let z : _≡_ {A = ℕ} 0 1 = cc in
         omega arith
 

@@ -13,7 +13,8 @@ use Rattle.text.specs.declared.lines.Line.the-variants.{Weights, Rule as RuleLi
 use Rattle.text.specs.Format.{bytesOf, InRange}
 use Rattle.parse.specs.declared.tables.TableText.{TableText}
 use Rattle.parse.specs.declared.monitors.MonitorText.{MonitorText}
-use Rattle.parse.specs.Limits.{maxText, badLine, tooLong}
+use Rattle.rules.specs.Refusal.{badLine, tooLong}
+use Rattle.text.specs.Size.{maxText}
 use Rattle.parse.specs.TableText.{refusedTable, readTable}
 use Rattle.parse.specs.MonitorText.{refusedMonitor, readMonitor}
 

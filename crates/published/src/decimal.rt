@@ -1,5 +1,5 @@
 // Numbers with a whole part and a fraction: rounded to decimal places, and printed with them.
-use bracket::BracketAnswer;
+use runlength::UNITS_PER_ONE;
 
 // The fraction is in units of 2^-60.
 pub struct Exact {
@@ -12,10 +12,10 @@ impl Exact {
     const WHOLE_LIMIT: u64 = 1 << 32;
 
     fn ten_times(self) -> Exact {
-        let shifted = self.fraction % BracketAnswer::WHOLE * 10;
+        let shifted = self.fraction % UNITS_PER_ONE * 10;
         Exact {
-            whole: self.whole % Exact::WHOLE_LIMIT * 10 + shifted / BracketAnswer::WHOLE,
-            fraction: shifted % BracketAnswer::WHOLE,
+            whole: self.whole % Exact::WHOLE_LIMIT * 10 + shifted / UNITS_PER_ONE,
+            fraction: shifted % UNITS_PER_ONE,
         }
     }
 
@@ -25,7 +25,7 @@ impl Exact {
 
     // The nearest whole number; a half goes up.
     fn rounded(self) -> u64 {
-        if self.fraction < BracketAnswer::WHOLE / 2 {
+        if self.fraction < UNITS_PER_ONE / 2 {
             return self.whole;
         }
         self.whole % Exact::WHOLE_LIMIT + 1

@@ -3,6 +3,7 @@ use crate::decimal::Exact;
 use bracket::BracketAnswer;
 use rules::RuleList;
 use rules::ZONES;
+use runlength::MAX_HORIZON;
 use table::TableAnswer;
 use table::TableFigures;
 
@@ -22,7 +23,7 @@ const LONGEST_MEAN: u64 = 65536;
 // are compared.
 const NEGLIGIBLE: u64 = 1024;
 
-const LONGEST: usize = TableAnswer::MAX_HORIZON as usize;
+const LONGEST: usize = MAX_HORIZON as usize;
 
 fn exactly(answer: BracketAnswer) -> u64 {
     match answer {

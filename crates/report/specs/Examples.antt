@@ -19,7 +19,7 @@ use Rattle.text.specs.Word.{pastWord}
 use Rattle.text.specs.Number.{digitsFrom, numberAt, fieldAt}
 use Rattle.text.specs.Signed.{signedAt, signedFieldAt}
 use Rattle.text.specs.Line.{fieldsFrom, weightsFrom, ruleFrom, horizonFrom, chartFrom, pointFrom, lineAt}
-use Rattle.parse.specs.Rules.{rulesAt, afterRules, slotsOf, listOf}
+use Rattle.parse.specs.Rules.{rulesAt, afterRules, slotsOf, ruleListOf}
 use Rattle.parse.specs.TableText.{refusedTable, readTable, tableEnd, tableText}
 use Rattle.parse.specs.Readings.{readingsAt, afterPoints}
 use Rattle.parse.specs.MonitorText.{refusedMonitor, readMonitor, monitorEnd, monitorText}
@@ -37,7 +37,7 @@ use Rattle.report.specs.MonitorReport.{monitorPrinted}
 
 -- the listing
 listing : tablePrinted (weights ++ rule ++ horizon) ≡ lines (topLines ++ rowLines ++ meanLine ++ percentileLines)
-unfolding lineAt pastWord fieldsFrom weightsFrom ruleFrom horizonFrom fieldAt numberAt digitsFrom rulesAt afterRules slotsOf listOf readTable tableEnd tableText
+unfolding lineAt pastWord fieldsFrom weightsFrom ruleFrom horizonFrom fieldAt numberAt digitsFrom rulesAt afterRules slotsOf ruleListOf readTable tableEnd tableText
     stateCount states moves explored turns next due busy enter withState placeOf moveOf nextState holding maskOf live hitsUpTo
     tableOf tableCheck checkOf checkRules rulesFrom front tab sum pmf survival restrictedMean units inflow signalled
     bracketOf bracketBy cdfOf lowTest highTest least
@@ -67,7 +67,7 @@ monitored : monitorPrinted (chart ++ westernElectricLines ++ point ++ centrePoin
     ++ (115 ∷ 105 ∷ 103 ∷ 110 ∷ 97 ∷ 108 ∷ 44 ∷ 51 ∷ 44 ∷ 52 ∷ 10 ∷ [])
     ++ (113 ∷ 117 ∷ 105 ∷ 101 ∷ 116 ∷ 44 ∷ 49 ∷ 10 ∷ [])
     ++ (116 ∷ 111 ∷ 116 ∷ 97 ∷ 108 ∷ 44 ∷ 52 ∷ 44 ∷ 49 ∷ 10 ∷ []))
-unfolding lineAt pastWord ruleFrom chartFrom pointFrom signedFieldAt signedAt fieldAt numberAt digitsFrom rulesAt afterRules slotsOf listOf readingsAt afterPoints
+unfolding lineAt pastWord ruleFrom chartFrom pointFrom signedFieldAt signedAt fieldAt numberAt digitsFrom rulesAt afterRules slotsOf ruleListOf readingsAt afterPoints
     readMonitor monitorEnd monitorText checkOf checkRules rulesFrom zonesOf monitorAnswers stepOf acceptedStep validState moveOf nextState holding maskOf live hitsUpTo
     answerLines signalsIn pointsBytes quietLine signalLine totalLine field decimal digitsOf monitorPrinted
 monitored = refl

@@ -8,7 +8,7 @@ use lib.IntN.{ℤ, _-ℤ_}
 use lib.ListN.{length}
 use borrow.Author.Tests.{eq-eqb, ne-eqb}
 use Rattle.rules.specs.declared.RuleList.{RuleList}
-use Rattle.rules.specs.declared.Refusal.{Refusal}
+use Rattle.rules.specs.declared.refusal.Refusal.{Refusal}
 use Rattle.rules.specs.declared.Checked.{Checked}
 use Rattle.rules.specs.declared.Checked.the-variants.{Accepted}
 use Rattle.rules.specs.Check.{activeRules, checkOf, within}
@@ -16,14 +16,16 @@ use Rattle.rules.specs.CheckLaws.{accepted}
 use Rattle.rules.specs.Refusal.{badSigma}
 use Rattle.monitor.specs.Zone.{minSigma, maxSigma}
 use Rattle.monitor.specs.ZoneLaws.{zone-exists}
-use Rattle.monitor.specs.Step.{maxCount, freshMonitor}
-use Rattle.monitor.specs.Calls.{refusalNumber, EachAnswer, ZonesExist}
+use Rattle.text.specs.Size.{maxText}
+use Rattle.rules.specs.Bounds.{zoneCount, maxNumber}
+use Rattle.monitor.specs.Step.{freshMonitor}
+use Rattle.monitor.specs.Calls.{refusalNumber, EachAnswer}
+use Rattle.runlength.specs.Sequence.{AllBelow}
 use Rattle.monitor.specs.Agreement.{no-refused-call}
 use Rattle.monitor.specs.Take.{takenAnswers}
 use Rattle.monitor.specs.TakeLaws.{fresh-valid, taken-answers}
 use Rattle.text.specs.Wrote.{Wrote}
 use Rattle.parse.specs.declared.monitors.MonitorText.{MonitorText}
-use Rattle.parse.specs.Limits.{maxText}
 use Rattle.parse.specs.Readings.{readingsAt}
 use Rattle.parse.specs.ReadingsLaws.{points-fit}
 use Rattle.parse.specs.MonitorText.{monitorText, monitorReadings}
@@ -36,8 +38,8 @@ use Rattle.report.specs.MonitorReport.{readingAnswers, checkedBy, chartP
 
 -- ---- the points' answers
 
-pub zones-exist : (centre : ℤ) (sigma : ℕ) (xs : List ℤ) → ZonesExist (zonesOf centre sigma xs)
-unfolding zonesOf ZonesExist
+pub zones-exist : (centre : ℤ) (sigma : ℕ) (xs : List ℤ) → AllBelow zoneCount (zonesOf centre sigma xs)
+unfolding zonesOf AllBelow
 zones-exist centre sigma [] = tt
 zones-exist centre sigma (x ∷ xs) = (zone-exists (x -ℤ centre) sigma, zones-exist centre sigma xs)
 
@@ -46,7 +48,7 @@ unfolding zonesOf
 zones-length centre sigma [] = refl
 zones-length centre sigma (x ∷ xs) = omega (arith, zones-length centre sigma xs)
 
-module _ (l : RuleList) (a : checkOf l ≡ Accepted) (centre : ℤ) (sigma : ℕ) (xs : List ℤ) (few : length xs ≤ maxCount) where
+module _ (l : RuleList) (a : checkOf l ≡ Accepted) (centre : ℤ) (sigma : ℕ) (xs : List ℤ) (few : length xs ≤ maxNumber) where
   -- with accepted rules no point is refused: each has a line
   pub no-point-refused : EachAnswer (λ x. refusalNumber x ≡ 0) (readingAnswers l centre sigma xs)
   no-point-refused = no-refused-call l a (zonesOf centre sigma xs) (zones-exist centre sigma xs) (omega (arith, zones-length centre sigma xs))

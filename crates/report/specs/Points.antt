@@ -1,11 +1,19 @@
 -- The lines of a list of readings on a chart. Definitions.
-use Prim.Native.Nat.{ℕ, _+_}
+use Prim.Native.Nat.{ℕ, _+_, _*_, _/_}
 use mathlib.Core.List.{List, [], _∷_, _++_}
 use lib.ListN.{length}
 use lib.IntN.{ℤ, _-ℤ_}
 use Rattle.monitor.specs.Zone.{zoneAt}
 use Rattle.monitor.specs.ReferenceChart.{Answer, refused, quiet, signal}
-use Rattle.print.specs.Monitor.{quietLine, signalLine, totalLine}
+use Rattle.text.specs.Size.{maxText, minPoint}
+use Rattle.print.specs.Monitor.{quietLine, signalLine, signalRoom, totalLine, totalRoom}
+
+-- the most points that a text can have, and the most bytes of their lines and the total
+abbrev pub maxPoints : ℕ
+maxPoints = maxText / minPoint
+
+abbrev pub monitorRoom : ℕ
+monitorRoom = signalRoom * maxPoints + totalRoom
 
 -- the zones of readings on the chart with this centre and sigma
 unfoldable pub zonesOf : ℤ → ℕ → List ℤ → List ℕ

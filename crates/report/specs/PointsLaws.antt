@@ -16,7 +16,7 @@ use Rattle.monitor.specs.State.{stateMask, nextState, validState}
 use Rattle.monitor.specs.Step.{monitorAt, freshMonitor}
 use Rattle.monitor.specs.declared.Taken.{Taken}
 use Rattle.monitor.specs.ReferenceChart.{Answer, quiet, signal}
-use Rattle.monitor.specs.Take.{takenOf, answerBy, takenAnswers}
+use Rattle.monitor.specs.Take.{takenOf, maskAnswer, takenAnswers}
 use Rattle.monitor.specs.TakeLaws.{fresh-valid, taken-valid}
 use Rattle.monitor.specs.ZoneLaws.{zone-exists}
 use Rattle.text.specs.declared.lines.Line.{Line}
@@ -38,10 +38,10 @@ zone-given ex ec sigma = rw (ex, ec)
 -- ---- the line of a mask
 
 module _ {a b : List ℕ} {i r : ℕ} (mask count : ℕ) where
-  pub quiet-line : mask ≡ 0 → Wrote a i b r (quietLine count) → Wrote a i b r (lineOf (answerBy mask count))
+  pub quiet-line : mask ≡ 0 → Wrote a i b r (quietLine count) → Wrote a i b r (lineOf (maskAnswer mask count))
   quiet-line e w = rw (eq-eqb mask 0 e) w
 
-  pub signal-line : (mask ≡ 0 → ⊥) → Wrote a i b r (signalLine count mask) → Wrote a i b r (lineOf (answerBy mask count))
+  pub signal-line : (mask ≡ 0 → ⊥) → Wrote a i b r (signalLine count mask) → Wrote a i b r (lineOf (maskAnswer mask count))
   signal-line n w = rw (ne-eqb mask 0 n) w
 
 -- ---- one answer more
@@ -57,7 +57,7 @@ signals-more [] a = omega arith
 signals-more (x ∷ rest) a = omega (arith, signals-more rest a)
 
 -- a mask says whether its answer is a signal
-mask-signal : (mask count : ℕ) → oneSignal (answerBy mask count) ≡ cond (eqb mask 0) 0 1
+mask-signal : (mask count : ℕ) → oneSignal (maskAnswer mask count) ≡ cond (eqb mask 0) 0 1
 mask-signal mask count = go (eqb mask 0)
   where
     go : (b : Bool) → oneSignal (cond b (quiet count) (signal count mask)) ≡ cond b 0 1
@@ -138,7 +138,7 @@ module _ {s : List ℕ} {at : ℕ} {rs : List Rule} {centre : ℤ} {sigma : ℕ}
 
     pub charted-more : AllInBounds rs → (x : ℤ) (next : ℕ) → lineAt s i ≡ Point x next → (z : ℕ) → z ≡ zoneAt (x -ℤ centre) sigma
         → (taken : Taken) → taken ≡ takenOf rs m z → {after′ : List ℕ} (r one : ℕ)
-        → Wrote after end after′ r (lineOf (answerBy (taken .mask) (m .count + 1))) → r ≤ end + signalRoom
+        → Wrote after end after′ r (lineOf (maskAnswer (taken .mask) (m .count + 1))) → r ≤ end + signalRoom
         → one ≡ cond (eqb (taken .mask) 0) 0 1
         → Charted s at rs centre sigma before after′ next r (points + 1) (signals + one) (taken .next)
     unfolding readingsAt zonesOf takenAnswers
@@ -148,7 +148,7 @@ module _ {s : List ℕ} {at : ℕ} {rs : List Rule} {centre : ℤ} {sigma : ℕ}
         a = point-ahead s i x next e
 
         answer : Answer
-        answer = answerBy (taken .mask) (m .count + 1)
+        answer = maskAnswer (taken .mask) (m .count + 1)
 
         go : (f : ℕ) → length s ≤ i + f → points + length (readingsAt f s i) ≡ length (readingsAt (length s) s at)
             → u .answers ++ takenAnswers rs m (zonesOf centre sigma (readingsAt f s i)) ≡ takenAnswers rs freshMonitor (zonesOf centre sigma (readingsAt (length s) s at))

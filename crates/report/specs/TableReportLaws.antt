@@ -9,19 +9,19 @@ use lib.Dec.{leb}
 use lib.ListN.{length, getD, drop, length-append, length-drop, List·getD-append}
 use borrow.Author.Tests.{leb-true, eq-eqb, ne-eqb}
 use Rattle.rules.specs.declared.RuleList.{RuleList}
-use Rattle.rules.specs.declared.Refusal.{Refusal}
+use Rattle.rules.specs.declared.refusal.Refusal.{Refusal}
 use Rattle.rules.specs.Bounds.{zoneCount}
 use Rattle.rules.specs.Check.{activeRules}
-use Rattle.runlength.specs.Sum.{sum, tab, front}
+use Rattle.runlength.specs.Sum.{sum, tab, front, at}
 use Rattle.runlength.specs.SumLaws.{sum-cong}
 use Rattle.runlength.specs.TabLaws.{length-tab, getD-tab}
 use Rattle.runlength.specs.Chain.{pmf, cdf, survival}
 use Rattle.states.specs.States.{moves}
 use Rattle.states.specs.Automata.{stateAutomaton}
-use Rattle.rows.specs.Limits.{unitsPerOne}
+use Rattle.runlength.specs.Scale.{unitsPerOne}
 use Rattle.table.specs.declared.TableFigures.{TableFigures}
 use Rattle.table.specs.declared.TableAnswer.{TableAnswer}
-use Rattle.table.specs.Table.{weightOf, stateCount, tableChain, TableResult, tableResult, tableOf}
+use Rattle.table.specs.Table.{stateCount, tableChain, TableResult, tableResult, tableOf}
 use Rattle.table.specs.Accepted.{AcceptedCall}
 use Rattle.table.specs.AcceptedLaws.{accepted-call, table-mass}
 use Rattle.bracket.specs.Bracket.{cdfOf}

@@ -2,7 +2,7 @@
 use crate::ReportAnswer;
 use crate::points::Chart;
 use crate::points::put_points;
-use monitor::zone::Zoned;
+use monitor::zone::ZoneAnswer;
 use rules::Checked;
 use rules::Refusal;
 ghost use mathlib.Core.Path.{_≡_};
@@ -15,10 +15,10 @@ ghost use Rattle.report.specs.MonitorReport.{monitorPrinted};
 fn sigma_fits(sigma: u32) -> bool
     ensures { λ t. ⌜ t ≡ within minSigma maxSigma sigma ⌝ }
 {
-    if sigma < Zoned::MIN_SIGMA {
+    if sigma < ZoneAnswer::MIN_SIGMA {
         return false;
     }
-    sigma <= Zoned::MAX_SIGMA
+    sigma <= ZoneAnswer::MAX_SIGMA
 }
 
 // The monitor program's lines for a text, in the lent buffer; or the refusal, with the buffer as it was: 17; 16; then 2, 3, 4; then 1, also

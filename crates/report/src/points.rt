@@ -17,9 +17,9 @@ ghost use Rattle.rules.specs.Check.{activeRules};
 ghost use Rattle.rules.specs.InBounds.{AllInBounds};
 ghost use Rattle.monitor.specs.Zone.{minSigma, maxSigma};
 ghost use Rattle.monitor.specs.Step.{freshMonitor};
-ghost use Rattle.monitor.specs.Take.{answerBy, takenAnswers};
+ghost use Rattle.monitor.specs.Take.{maskAnswer, takenAnswers};
 ghost use Rattle.text.specs.Wrote.{Wrote};
-ghost use Rattle.parse.specs.Limits.{maxText};
+ghost use Rattle.text.specs.Size.{maxText};
 ghost use Rattle.parse.specs.Readings.{readingsAt};
 ghost use Rattle.print.specs.Monitor.{signalRoom, totalRoom};
 ghost use Rattle.report.specs.Points.{zonesOf, lineOf, pointsBytes};
@@ -40,7 +40,7 @@ fn one_signal(mask: u32) -> u32
 // The line of a point, by its mask and its count.
 fn put_answer(out: &mut [u8], at: usize, mask: u32, count: u32) -> usize
     requires { ⌜ at + signalRoom ≤ length (now out) ⌝ }
-    ensures { λ r. ⌜ Wrote (now (out .entry)) at (now (out .exit)) r (lineOf (answerBy mask count)) ⌝ }
+    ensures { λ r. ⌜ Wrote (now (out .entry)) at (now (out .exit)) r (lineOf (maskAnswer mask count)) ⌝ }
     ensures { λ r. ⌜ r ≤ at + signalRoom ⌝ }
 {
     if mask == 0 {

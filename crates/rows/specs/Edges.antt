@@ -6,9 +6,8 @@ use Prim.Native.Nat.{ℕ, _+_, _*_, _≤_, _<_}
 use lib.Dec.{eqb, ltb}
 use lib.ListN.{length, getD}
 use Rattle.rules.specs.Bounds.{zoneCount}
-use Rattle.runlength.specs.Sum.{sum, only}
-use Rattle.rows.specs.Limits.{weightTotal}
-use Rattle.rows.specs.At.{at}
+use Rattle.runlength.specs.Sum.{sum, only, at}
+use Rattle.runlength.specs.Scale.{weightTotal}
 use Rattle.rows.specs.Rows.{Moves, Weights}
 
 -- the target of an entry of the moves: its state, or n for a signal

@@ -10,10 +10,9 @@ use lib.ListN.{length, getD, set, length-set}
 use lib.Seq.{getD-set-same, getD-set-other}
 use borrow.Author.Tests.{eq-eqb, lt-ltb, le-ltb, ltb-true}
 use Rattle.rules.specs.Bounds.{zoneCount}
-use Rattle.runlength.specs.Sum.{sum, only}
+use Rattle.runlength.specs.Sum.{sum, only, at}
 use Rattle.runlength.specs.SumLaws.{sum-zero, sum-more, sum-cong, sum-le, sum-upto, sum-point, sum-swap, sum-pick}
-use Rattle.rows.specs.Limits.{weightTotal}
-use Rattle.rows.specs.At.{at}
+use Rattle.runlength.specs.Scale.{weightTotal}
 use Rattle.rows.specs.MoreSumLaws.{only-le, only-add}
 use Rattle.rows.specs.Rows.{Weights}
 use Rattle.rows.specs.Edges.{target, moved, share, Placed, CanMerge, Kept, Inside, Merged, CanGroupState, GroupingState}

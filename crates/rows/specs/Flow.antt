@@ -3,9 +3,8 @@ use mathlib.Core.Path.{_≡_}
 use mathlib.Core.List.{List}
 use Prim.Native.Nat.{ℕ, _+_, _*_, _/_, _≤_, _<_}
 use lib.ListN.{length, getD}
-use Rattle.runlength.specs.Sum.{sum}
-use Rattle.rows.specs.Limits.{weightTotal, unitsPerOne}
-use Rattle.rows.specs.At.{at}
+use Rattle.runlength.specs.Sum.{sum, at}
+use Rattle.runlength.specs.Scale.{weightTotal, unitsPerOne}
 use Rattle.rows.specs.Words.{value, kept, Carried}
 use Rattle.rows.specs.Edges.{share, weightTo, Inside}
 

@@ -6,10 +6,9 @@ use native.Mathlib.Nat.{zero-mul, mul-zero, mul-le-mul-left, div-add-mod'}
 use native.Mathlib.Omega.{arith}
 use lib.Dec.{eqb}
 use lib.ListN.{getD}
-use Rattle.runlength.specs.Sum.{sum, front}
+use Rattle.runlength.specs.Sum.{sum, front, at}
 use Rattle.runlength.specs.SumLaws.{sum-zero, sum-more, sum-cong, sum-le, sum-mul, sum-mul-right, sum-upto, sum-term, sum-swap, sum-none, sum-div-le}
-use Rattle.rows.specs.Limits.{weightTotal}
-use Rattle.rows.specs.At.{at}
+use Rattle.runlength.specs.Scale.{weightTotal}
 use Rattle.rows.specs.MoreSumLaws.{only-mul, length-front, getD-front}
 use Rattle.rows.specs.Words.{value, zeros, CanAdd, Added, CanSettle, Settled}
 use Rattle.rows.specs.Edges.{share, weightTo}

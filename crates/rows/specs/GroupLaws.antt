@@ -7,9 +7,8 @@ use lib.ListN.{getD, set, length-set}
 use lib.Seq.{getD-set-same, getD-set-other}
 use borrow.Author.Count.{below-more}
 use Rattle.rules.specs.Bounds.{zoneCount}
-use Rattle.runlength.specs.Sum.{sum}
+use Rattle.runlength.specs.Sum.{sum, at}
 use Rattle.runlength.specs.SumLaws.{sum-zero, sum-more, sum-cong, sum-upto}
-use Rattle.rows.specs.At.{at}
 use Rattle.rows.specs.Edges.{moved, weightTo, CanGroupState, GroupingState, CanGroup, Grouped}
 use Rattle.rows.specs.EdgesLaws.{share-cong}
 

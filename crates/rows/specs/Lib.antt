@@ -1,6 +1,4 @@
 -- The definitions and laws of the rows.
-pub mod At
-pub mod Limits
 pub mod MoreSumLaws
 pub mod Words
 pub mod WordsLaws

@@ -10,14 +10,13 @@ use lib.Dec.{eqb, ltb}
 use lib.ListN.{length, getD, set, replicate, length-replicate}
 use borrow.Author.Tests.{eq-eqb, ne-eqb, ltb-true}
 use Rattle.rules.specs.Bounds.{zoneCount, maxStates}
-use Rattle.runlength.specs.Sum.{sum, only}
+use Rattle.runlength.specs.Sum.{sum, only, at}
 use Rattle.runlength.specs.SumLaws.{sum-zero, sum-more, sum-cong, sum-mul, sum-pick}
 use Rattle.runlength.specs.TabLaws.{front-none, front-more}
 use Rattle.runlength.specs.Automaton.{quiet, signal, after}
 use Rattle.runlength.specs.Chain.{inflow, signalled, units, pmf, survival, restrictedMean}
 use Rattle.runlength.specs.Listed.{entryMove}
-use Rattle.rows.specs.Limits.{weightTotal, unitsPerOne}
-use Rattle.rows.specs.At.{at}
+use Rattle.runlength.specs.Scale.{weightTotal, unitsPerOne}
 use Rattle.rows.specs.MoreSumLaws.{only-mul, getD-zeros}
 use Rattle.rows.specs.Rows.{chain, Weights, CanRun, Ran}
 use Rattle.rows.specs.Edges.{target, moved, weightTo, CanGroup, Grouped}

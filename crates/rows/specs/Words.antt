@@ -4,9 +4,8 @@ use mathlib.Core.List.{List}
 use Prim.Native.Nat.{ℕ, _+_, _*_, _≤_, _<_}
 use lib.Dec.{eqb}
 use lib.ListN.{length, getD}
-use Rattle.runlength.specs.Sum.{sum, only, front}
-use Rattle.rows.specs.Limits.{weightTotal, unitsPerOne}
-use Rattle.rows.specs.At.{at}
+use Rattle.runlength.specs.Sum.{sum, only, front, at}
+use Rattle.runlength.specs.Scale.{weightTotal, unitsPerOne}
 
 abbrev pub value : ℕ → ℕ → ℕ
 value hi lo = hi * weightTotal + lo

@@ -9,11 +9,10 @@ use lib.Dec.{eqb}
 use lib.ListN.{length, getD, set, length-set}
 use lib.Seq.{getD-set-same, getD-set-other}
 use borrow.Author.Tests.{eq-eqb, ne-eqb}
-use Rattle.runlength.specs.Sum.{only}
+use Rattle.runlength.specs.Sum.{only, at}
 use Rattle.runlength.specs.SumLaws.{sum-zero, sum-more, sum-upto}
 use Rattle.runlength.specs.TabLaws.{front-none, front-more}
-use Rattle.rows.specs.Limits.{weightTotal, unitsPerOne}
-use Rattle.rows.specs.At.{at}
+use Rattle.runlength.specs.Scale.{weightTotal, unitsPerOne}
 use Rattle.rows.specs.Words.{value, kept, Carried, CanAdd, Added, CanSettle, Settled}
 
 -- a store of the new sum at t

@@ -1,10 +1,10 @@
 // One row of the table: the units of all states sent along the edges, and the sums divided once.
 ghost use mathlib.Core.Path.{_≡_};
 ghost use Rattle.rows.specs.Flow.{CanSend, Sent, CanPush, Pushed, CanRow, Rowed};
-use crate::limits::WEIGHT_TOTAL;
 use crate::words::add_product;
 use crate::words::clear;
 use crate::words::settle;
+use runlength::WEIGHT_TOTAL;
 
 // A share, to multiply by.
 fn wide(x: u32) -> u64

@@ -3,9 +3,9 @@ ghost use Rattle.rows.specs.Rows.{CanRun, Ran};
 ghost use Rattle.rows.specs.Running.{CanMean, Meant};
 use crate::edges::group;
 use crate::flow::row;
-use crate::limits::UNITS_PER_ONE;
 use rules::RuleList;
 use rules::ZONES;
+use runlength::UNITS_PER_ONE;
 
 // What the rows leave besides the two lists: the survival at the horizon, and the restricted mean as whole points and units.
 pub struct Totals {

@@ -4,7 +4,7 @@ ghost use Prim.Native.Nat.{_≤_};
 ghost use lib.ListN.{length};
 ghost use Rattle.runlength.specs.Sum.{front};
 ghost use Rattle.rows.specs.Words.{CanAdd, Added, CanSettle, Settled, zeros};
-use crate::limits::WEIGHT_TOTAL;
+use runlength::WEIGHT_TOTAL;
 
 // (high * 2^30 + low) * weight more for the target t.
 pub(crate) fn add_product(

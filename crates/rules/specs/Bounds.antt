@@ -1,9 +1,13 @@
--- The number of zones and the bounds of a rule list, each written here once. Definitions.
+-- The number of zones, the largest number, and the bounds of a rule list, each written here once. Definitions.
 use Prim.Native.Nat.{ℕ, _-_, _^_}
 
 -- zones are the numbers below it
 abbrev pub zoneCount : ℕ
 zoneCount = 7
+
+-- the largest number of 32 bits: the largest that a text can say, and the largest count
+abbrev pub maxNumber : ℕ
+maxNumber = 2 ^ 32 - 1
 
 -- a list has this many rules
 abbrev pub minRules : ℕ

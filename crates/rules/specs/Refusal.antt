@@ -1,11 +1,15 @@
--- Refusals: document 01's numbers, by name. Definitions.
+-- Refusals: every number of document 01, by name, each written here once. Definitions.
 use Prim.Native.Nat.{ℕ}
-use Rattle.rules.specs.declared.Refusal.{Refusal}
+use Rattle.rules.specs.declared.refusal.Refusal.{Refusal}
 
 abbrev pub refusal : ℕ → ℕ → Refusal
 refusal n place = record { number = n; place = place }
 
--- d outside its bounds
+-- nothing is refused
+abbrev pub notRefused : Refusal
+notRefused = refusal 0 0
+
+-- sigma (document 01's d) outside its bounds
 abbrev pub badSigma : Refusal
 badSigma = refusal 1 0
 
@@ -32,3 +36,43 @@ badZone = refusal 6 0
 -- a count that can go no further
 abbrev pub badCount : Refusal
 badCount = refusal 7 0
+
+-- weights that do not sum to probability one
+abbrev pub badWeights : Refusal
+badWeights = refusal 8 0
+
+-- a horizon outside its bounds
+abbrev pub badHorizon : Refusal
+badHorizon = refusal 9 0
+
+-- more states than are taken
+abbrev pub tooManyStates : Refusal
+tooManyStates = refusal 10 0
+
+-- a lent list that is shorter than the horizon
+abbrev pub shortList : Refusal
+shortList = refusal 11 0
+
+-- a list of chances that is empty or too long
+abbrev pub badListLength : Refusal
+badListLength = refusal 12 0
+
+-- a number of states outside its bounds
+abbrev pub badStateCount : Refusal
+badStateCount = refusal 13 0
+
+-- a percent outside its bounds
+abbrev pub badPercent : Refusal
+badPercent = refusal 14 0
+
+-- chances that sum to more than probability one
+abbrev pub badTotal : Refusal
+badTotal = refusal 15 0
+
+-- the line with this number, from 1, is not the one expected, is missing, or cannot be read
+abbrev pub badLine : ℕ → Refusal
+badLine line = refusal 16 line
+
+-- a text that is too long
+abbrev pub tooLong : Refusal
+tooLong = refusal 17 0

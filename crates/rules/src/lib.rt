@@ -1,10 +1,17 @@
-// Rule lists: the number of zones, the bounds, the two ready lists, the check, and what a refusal is.
+// Rule lists: the number of zones, the bounds, the two ready lists and the check; and the refusals of every operation.
 ghost use mathlib.Core.Path.{_≡_};
 ghost use Rattle.rules.specs.Check.{checkOf, checkRule};
 ghost use Rattle.rules.specs.Ready.{ruleOf, westernElectric, duncanList};
 
+mod refusal;
+
+pub use refusal::Refusal;
+
 // How many zones the chart has: they are numbered from 0. Nothing else says it.
 pub const ZONES: usize = 7;
+
+// The largest number of 32 bits: the largest that a text can say, and the largest count.
+pub const MAX_NUMBER: u32 = 4294967295;
 
 // Document 01's T(k,m,Z): signals when at least k of the last m points lie in the zones of the set, written as the sum of 2^zone.
 pub struct Rule {
@@ -17,35 +24,6 @@ pub struct Rule {
 pub struct RuleList {
     pub rules: [Rule; RuleList::MAX_RULES as usize],
     pub len: u32,
-}
-
-// Why an operation turned its input down: document 01's number, and the index of the rule for 3 and 4, else 0.
-pub struct Refusal {
-    pub number: u32,
-    pub place: u32,
-}
-
-impl Refusal {
-    // The step is outside its bounds.
-    pub const SIGMA: u32 = 1;
-
-    // No rules, or too many.
-    pub const RULE_COUNT: u32 = 2;
-
-    // A rule's k or m is outside its bounds.
-    pub const RULE_BOUNDS: u32 = 3;
-
-    // A rule's zone set is empty or has a zone that does not exist.
-    pub const ZONE_SET: u32 = 4;
-
-    // The given state cannot stand with these rules and this count.
-    pub const STATE: u32 = 5;
-
-    // There is no such zone.
-    pub const ZONE: u32 = 6;
-
-    // The count can go no further.
-    pub const COUNT: u32 = 7;
 }
 
 // What the check of a list, or of one rule, answers.

@@ -2,7 +2,7 @@
 use mathlib.Core.Path.{_≡_}
 use Prim.Native.Nat.{ℕ, _<_}
 use mathlib.Core.List.{List}
-use Rattle.runlength.specs.Sequence.{Zoned}
+use Rattle.runlength.specs.Sequence.{AllBelow}
 use Rattle.runlength.specs.Automaton.{Automaton, Move, quiet, signal, signals, runLength}
 
 -- both moves signal, or both go on to states that R relates
@@ -16,8 +16,8 @@ module _ {A B : Type 0} (a : Automaton A) (b : Automaton B) where
   -- every continuation first signals at the same point from both states: it signals from both or from neither, and the run lengths agree
   pub record EqualFuture (s : A) (t : B) : Type 0 where
     pub same-zones : a .zones ≡ b .zones
-    pub same-signals : (q : List ℕ) → Zoned (a .zones) q → signals a s q ≡ signals b t q
-    pub same-runLength : (q : List ℕ) → Zoned (a .zones) q → runLength a s q ≡ runLength b t q
+    pub same-signals : (q : List ℕ) → AllBelow (a .zones) q → signals a s q ≡ signals b t q
+    pub same-runLength : (q : List ℕ) → AllBelow (a .zones) q → runLength a s q ≡ runLength b t q
 
   -- a relation that every zone keeps: from related states both signal, or both go on to related states
   pub record Simulation (R : A → B → Type 0) : Type 0 where

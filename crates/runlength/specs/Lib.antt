@@ -1,3 +1,4 @@
+pub mod Scale
 pub mod Sum
 pub mod SumLaws
 pub mod TabLaws
@@ -17,8 +18,6 @@ pub mod MeanLaws
 pub mod RestrictedMean
 pub mod Future
 pub mod FutureLaws
-pub mod Says
-pub mod SaysLaws
 pub mod Percentile
 pub mod PercentileLaws
 pub mod PercentBounds

@@ -9,11 +9,11 @@ use lib.Pow.{pow-add}
 use lib.Dec.{T, ltb, ltb→lt}
 use lib.ListN.{getD}
 use Rattle.runlength.specs.Sum.{sum}
-use Rattle.runlength.specs.Automaton.{Move, quiet, signal, exactCdf, exactSurvival, exactRestrictedMean}
+use Rattle.runlength.specs.Automaton.{Move, quiet, signal, exactCdf, exactRestrictedMean}
 use Rattle.runlength.specs.Chain.{Proper, cdf, survival, restrictedMean, meanErrorBound}
 use Rattle.runlength.specs.Listed.{entryMove, listedAutomaton, listedChain}
 use Rattle.runlength.specs.Conservation.{mass-conservation}
-use Rattle.runlength.specs.CdfBounds.{cdf-lower, cdf-upper, cdf-strict-upper, survival-lower, survival-upper}
+use Rattle.runlength.specs.CdfBounds.{cdf-lower, cdf-strict-upper}
 use Rattle.runlength.specs.RestrictedMean.{mean-lower, mean-upper}
 
 -- a power of 2 ^ 30 is a power of 2
@@ -50,21 +50,9 @@ module _ (zones n : ℕ) (moves : List ℕ) (weight : ℕ → ℕ) (some-state :
   pub listed-cdf-lower : (k : ℕ) → cdf (listedChain zones n moves weight) k * 2 ^ (30 * k) ≤ exactCdf (listedAutomaton zones n moves) weight k * 2 ^ 60
   listed-cdf-lower k = rw (← (pow-pow k)) (cdf-lower (listedChain zones n moves weight) listed-proper k)
 
-  -- the exact cdf is more than the table's by at most one unit for each state and point
-  pub listed-cdf-upper : (k : ℕ) → exactCdf (listedAutomaton zones n moves) weight k * 2 ^ 60 ≤ (cdf (listedChain zones n moves weight) k + k * n) * 2 ^ (30 * k)
-  listed-cdf-upper k = rw (← (pow-pow k)) (cdf-upper (listedChain zones n moves weight) listed-proper k)
-
   -- and strictly by less than one more for each point
   pub listed-cdf-strict-upper : (k : ℕ) → 1 ≤ k → exactCdf (listedAutomaton zones n moves) weight k * 2 ^ 60 < (cdf (listedChain zones n moves weight) k + k * (n + 1)) * 2 ^ (30 * k)
   listed-cdf-strict-upper k h = rw (← (pow-pow k)) (cdf-strict-upper (listedChain zones n moves weight) listed-proper k h)
-
-  -- the table's survival is never more than the exact one
-  pub listed-survival-lower : (k : ℕ) → survival (listedChain zones n moves weight) k * 2 ^ (30 * k) ≤ exactSurvival (listedAutomaton zones n moves) weight k * 2 ^ 60
-  listed-survival-lower k = rw (← (pow-pow k)) (survival-lower (listedChain zones n moves weight) listed-proper k)
-
-  -- the exact survival is more than the table's by at most one unit for each state and point
-  pub listed-survival-upper : (k : ℕ) → exactSurvival (listedAutomaton zones n moves) weight k * 2 ^ 60 ≤ (survival (listedChain zones n moves weight) k + k * n) * 2 ^ (30 * k)
-  listed-survival-upper k = rw (← (pow-pow k)) (survival-upper (listedChain zones n moves weight) listed-proper k)
 
   -- the table's restricted mean is never more than the exact one
   pub listed-mean-lower : (h : ℕ) → restrictedMean (listedChain zones n moves weight) h * 2 ^ (30 * h) ≤ exactRestrictedMean (listedAutomaton zones n moves) weight h * 2 ^ 60

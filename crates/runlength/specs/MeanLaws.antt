@@ -1,7 +1,7 @@
 -- The exact restricted mean of any automaton is the sum of its exact survivals. Laws.
 use mathlib.Core.Path.{_≡_, refl, sym, ap, ap₂, _∙_, fun-ext}
 use Prim.Native.Nat.{ℕ, zero, suc, _+_, _-_, _*_, _^_}
-use native.Mathlib.Nat.{mul-assoc, one-mul, pow-zero, pow-suc, pow-succ', suc-sub-suc, sub-zero}
+use native.Mathlib.Nat.{one-mul, pow-succ', suc-sub-suc, sub-zero}
 use native.Mathlib.Omega.{arith}
 use Rattle.runlength.specs.Sum.{sum, sumSequences}
 use Rattle.runlength.specs.SumLaws.{sum-cong, sum-add, sum-mul-right}
@@ -16,10 +16,6 @@ sum-first : (h : ℕ) (f : ℕ → ℕ) → sum (suc h) f ≡ f 0 + sum h (λ n.
 unfolding sum
 sum-first zero f = omega arith
 sum-first (suc h) f = omega (arith, sum-first h f)
-
--- the first power
-first-power : (b : ℕ) → b ^ 1 ≡ b
-first-power b = pow-suc b 0 ∙ ap (λ k. k * b) (pow-zero b) ∙ one-mul b
 
 module _ {A : Type 0} (a : Automaton A) (weight : ℕ → ℕ) (base : ℕ) (weights : sum (a .zones) weight ≡ base) where
   -- the mean by its first point: one point of everything, then the rest from where it leads
@@ -60,17 +56,3 @@ module _ {A : Type 0} (a : Automaton A) (weight : ℕ → ℕ) (base : ℕ) (wei
   pub mean-of-survivals : (h : ℕ) → exactRestrictedMean a weight h ≡ sum h (λ n. exactSurvival a weight n * base ^ (h - n))
   unfolding exactRestrictedMean exactSurvival exactRestrictedMeanFrom
   mean-of-survivals h = mean-of-survivals-from h (a .start)
-
-  -- the restricted mean, one point further
-  pub mean-next : (h : ℕ) → exactRestrictedMean a weight (suc h) ≡ (exactRestrictedMean a weight h + exactSurvival a weight h) * base
-  unfolding sum
-  mean-next h =
-      mean-of-survivals (suc h)
-      ∙ ap₂ (λ x y. x + y)
-      (sum-cong h _ _ (λ n l.
-      ap (λ k. exactSurvival a weight n * k) (ap (λ k. base ^ k) (omega arith) ∙ pow-suc base (h - n))
-      ∙ sym (mul-assoc (exactSurvival a weight n) (base ^ (h - n)) base))
-      ∙ sum-mul-right h base (λ n. exactSurvival a weight n * base ^ (h - n))
-      ∙ ap (λ k. k * base) (sym (mean-of-survivals h)))
-      (ap (λ k. exactSurvival a weight h * k) (ap (λ k. base ^ k) (omega arith) ∙ first-power base))
-      ∙ omega arith

@@ -73,11 +73,6 @@ percentile-least reached n m q i t = go (decLe n m)
     go (yes h) = h
     go (no h) = absurd (q .first m i (omega arith) t)
 
--- there is at most one percentile
-pub percentile-unique : (reached : ℕ → Bool) (n m : ℕ) → Percentile reached n → Percentile reached m → n ≡ m
-percentile-unique reached n m q r =
-    omega (arith, percentile-least reached n m q (r .from-one) (r .there), percentile-least reached m n r (q .from-one) (q .there))
-
 module _ (reached low high : ℕ → Bool)
     (reached-low : (n : ℕ) → 1 ≤ n → T (reached n) → T (low n)) (high-reached : (n : ℕ) → T (high n) → T (reached n)) where
   -- a percentile is not below the least that passes the low test
@@ -115,11 +110,6 @@ module _ (reached : ℕ → Bool) (never : (n : ℕ) → 1 ≤ n → T (reached 
   pub never-beyond : (h : ℕ) (high : Option ℕ) → Contains reached h none high
   unfolding Contains
   never-beyond h high = λ n q. absurd (never-percentile n q)
-
-  -- and 'not below l' holds
-  pub never-below : (h l : ℕ) → Contains reached h (some l) none
-  unfolding Contains
-  never-below h l = λ n q. absurd (never-percentile n q)
 
   -- and 'between l and u' does not
   pub never-between : (h l u : ℕ) → Contains reached h (some l) (some u) → ⊥

@@ -3,6 +3,6 @@ use Prim.Native.Nat.{ℕ, _<_}
 use mathlib.Core.List.{List, [], _∷_}
 
 -- each zone of the sequence is one of the zones, the numbers below `zones`
-unfoldable pub Zoned : ℕ → List ℕ → Type 0
-Zoned zones [] = Unit {0}
-Zoned zones (z ∷ q) = (z < zones) × Zoned zones q
+unfoldable pub AllBelow : ℕ → List ℕ → Type 0
+AllBelow zones [] = Unit {0}
+AllBelow zones (z ∷ q) = (z < zones) × AllBelow zones q

@@ -2,12 +2,16 @@
 use Prim.Native.Nat.{ℕ, zero, suc, _+_}
 use mathlib.Core.Bool.{Bool, true, false}
 use mathlib.Core.List.{List, [], _∷_, _++_}
-use lib.ListN.{drop}
+use lib.ListN.{drop, getD}
 
 -- f 0 + f 1 + .. + f (n - 1)
 unfoldable pub sum : ℕ → (ℕ → ℕ) → ℕ
 sum zero f = 0
 sum (suc n) f = sum n f + f n
+
+-- a list as a function of the index, 0 beyond its end
+abbrev pub at : List ℕ → ℕ → ℕ
+at l i = getD l i 0
 
 -- x where the test holds, else 0
 abbrev pub only : Bool → ℕ → ℕ

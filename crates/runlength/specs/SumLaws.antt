@@ -1,6 +1,6 @@
 -- Laws of finite sums.
 use mathlib.Core.Path.{_≡_, refl, sym, ap, _∙_, subst}
-use mathlib.Core.Bool.{Bool, true, false}
+use mathlib.Core.Bool.{Bool}
 use mathlib.Core.Logic.{⊎-elim}
 use Prim.Native.Nat.{ℕ, zero, suc, _+_, _-_, _*_, _/_, _≤_, _<_}
 use native.Mathlib.Nat.{add-zero, add-suc, zero-mul, mul-zero, eq-or-lt-of-le, le-of-suc-le-suc, add-sub-of-le, div-mul-le-self, lt-div-mul-add}
@@ -72,12 +72,6 @@ pub sum-none : (n : ℕ) (f : ℕ → ℕ) → ((k : ℕ) → k < n → f k ≡ 
 unfolding sum
 sum-none zero f h = refl
 sum-none (suc n) f h = omega (arith, sum-none n f (λ k l. h k (omega arith)), h n (omega arith))
-
--- zeros at the end change nothing
-pub sum-tail : (n j : ℕ) (f : ℕ → ℕ) → ((k : ℕ) → n ≤ k → k < n + j → f k ≡ 0) → sum (n + j) f ≡ sum n f
-unfolding sum
-sum-tail n zero f h = ap (λ (k : ℕ). sum k f) (add-zero n)
-sum-tail n (suc j) f h = rw add-suc (omega (arith, sum-tail n j f (λ k a b. h k a (omega arith)), h (n + j) (omega arith) (omega arith)))
 
 -- the order of two sums is free
 pub sum-swap : (n m : ℕ) (f : ℕ → ℕ → ℕ) → sum n (λ i. sum m (λ j. f i j)) ≡ sum m (λ j. sum n (λ i. f i j))

@@ -1,7 +1,7 @@
 -- The total mass of all sequences of n zones, and its two parts: those that signal and those that do not. Laws.
 use mathlib.Core.Path.{_≡_, sym, ap₂, _∙_}
 use mathlib.Core.Bool.{Bool, true, false, not}
-use Prim.Native.Nat.{ℕ, zero, suc, _+_, _*_, _^_, _≤_}
+use Prim.Native.Nat.{ℕ, zero, suc, _+_, _*_, _^_}
 use native.Mathlib.Nat.{pow-zero, pow-succ'}
 use native.Mathlib.Omega.{arith}
 use Rattle.runlength.specs.Sum.{sum, only, sumSequences}
@@ -32,11 +32,3 @@ module _ {A : Type 0} (a : Automaton A) (weight : ℕ → ℕ) (base : ℕ) (wei
       sym (sequences-add (a .zones) n _ _)
       ∙ sequences-cong-all (a .zones) n (λ q. only-split (signals a (a .start) q) (product weight q))
       ∙ product-total (a .zones) weight base weights n
-
-  -- a cdf is at most one
-  pub cdf-at-most-total : (n : ℕ) → exactCdf a weight n ≤ base ^ n
-  cdf-at-most-total n = omega (arith, cdf-survival-total n)
-
-  -- a survival is at most one
-  pub survival-at-most-total : (n : ℕ) → exactSurvival a weight n ≤ base ^ n
-  survival-at-most-total n = omega (arith, cdf-survival-total n)

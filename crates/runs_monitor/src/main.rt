@@ -1,9 +1,10 @@
 // The monitor program: a text on standard input, a line for each of its points on standard output.
 use report::ReportAnswer;
+use text::MAX_TEXT;
 
 // One byte more than the longest text is read, so that a longer one is told. Where a read fails nothing is printed.
 fn main() {
-    let mut text = [0u8; 65537];
+    let mut text = [0u8; MAX_TEXT + 1];
     let input = output::read_input(&mut text);
     if input.failed {
         os::fail(b"standard input");

@@ -4,7 +4,6 @@ use mathlib.Core.Path.{_≡_, refl, ap, sym, _∙_}
 use mathlib.Core.Bool.{Bool, true, false, cond}
 use mathlib.Core.List.{List, [], _∷_, _++_}
 use native.Mathlib.Omega.{arith}
-use native.Mathlib.Decide.{decLt}
 use native.Mathlib.Nat.{le-refl, not-suc-le-zero, mod-lt, mod-eq-of-lt, div-eq-of-lt, div-lt-iff-lt-mul, mul-add-div, mul-add-mod-self-left, mul-le-mul-left}
 use native.Mathlib.Numerals.{add-one}
 use borrow.Author.Count.{below-more}
@@ -75,15 +74,6 @@ place-none t (x ∷ xs) h i l q = go (eqb x t) refl (place-none t xs) i h l q
     go true e ih i h l q = omega arith
     go false e ih zero h l q = eqb-false x t e q
     go false e ih (suc i) h l q = ih (omega arith) i (omega arith) q
-
--- two places that hold the same are one
-pub same-place : (xs : List ℕ) → Distinct xs → (i j s : ℕ) → At xs i s → At xs j s → i ≡ j
-same-place xs d i j s p q = go (decLt i j) (decLt j i)
-  where
-    go : Dec (i < j) → Dec (j < i) → i ≡ j
-    go (yes l) e = absurd (d .apart i j l (q .below) (p .is ∙ sym (q .is)))
-    go (no n) (yes l) = absurd (d .apart j i l (p .below) (q .is ∙ sym (p .is)))
-    go (no n) (no m) = omega arith
 
 -- ---- one more at the end
 

@@ -7,16 +7,15 @@ use Rattle.rules.specs.declared.RuleList.{RuleList}
 use Rattle.rules.specs.declared.Checked.the-variants.{Accepted}
 use Rattle.rules.specs.Bounds.{zoneCount, maxStates}
 use Rattle.rules.specs.Check.{activeRules, checkOf}
-use Rattle.runlength.specs.Sum.{sum}
-use Rattle.rows.specs.Limits.{maxHorizon, weightTotal}
+use Rattle.runlength.specs.Sum.{sum, at}
+use Rattle.runlength.specs.Scale.{maxHorizon, weightTotal, minHorizon}
 use Rattle.table.specs.declared.TableFigures.{TableFigures}
-use Rattle.table.specs.Limits.{minHorizon}
-use Rattle.table.specs.Table.{weightOf, stateCount, tableChain, figuresOf, filled, tableOf}
+use Rattle.table.specs.Table.{stateCount, tableChain, figuresOf, filled, tableOf}
 
 -- the rules, the weights, the horizon, the states and the two lists' lengths are in bounds
 pub record Passed (l : RuleList) (w : List ℕ) (h m n : ℕ) : Type 0 where
   pub rules : checkOf l ≡ Accepted
-  pub weights : sum zoneCount (weightOf w) ≡ weightTotal
+  pub weights : sum zoneCount (at w) ≡ weightTotal
   pub some-horizon : minHorizon ≤ h
   pub most-horizon : h ≤ maxHorizon
   pub few-states : stateCount (activeRules l) ≤ maxStates

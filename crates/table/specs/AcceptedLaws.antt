@@ -10,25 +10,24 @@ use lib.Seq.{take-at}
 use borrow.Author.Tests.{leb-true, eqb-true}
 use Rattle.rules.specs.declared.Rule.{Rule}
 use Rattle.rules.specs.declared.RuleList.{RuleList}
-use Rattle.rules.specs.declared.Refusal.{Refusal}
+use Rattle.rules.specs.declared.refusal.Refusal.{Refusal}
 use Rattle.rules.specs.declared.Checked.{Checked}
 use Rattle.rules.specs.declared.Checked.the-variants.{Accepted, Refused}
 use Rattle.rules.specs.Bounds.{zoneCount, maxStates}
 use Rattle.rules.specs.Check.{within, activeRules, checkOf}
 use Rattle.rules.specs.CheckLaws.{both, between}
-use Rattle.runlength.specs.Sum.{sum, tab, front}
+use Rattle.runlength.specs.Sum.{sum, tab, front, at}
 use Rattle.runlength.specs.TabLaws.{length-tab}
 use Rattle.runlength.specs.Chain.{cdf, survival}
 use Rattle.runlength.specs.ListedLaws.{listed-mass}
 use Rattle.states.specs.States.{moves}
 use Rattle.states.specs.Automata.{stateAutomaton}
 use Rattle.states.specs.StatesLaws.{states-some}
-use Rattle.rows.specs.Limits.{maxHorizon, weightTotal}
+use Rattle.rules.specs.Refusal.{badWeights, badHorizon, tooManyStates, shortList}
+use Rattle.runlength.specs.Scale.{maxHorizon, weightTotal, minHorizon}
 use Rattle.table.specs.declared.TableFigures.{TableFigures}
 use Rattle.table.specs.declared.TableAnswer.{TableAnswer}
-use Rattle.table.specs.Limits.{minHorizon}
-use Rattle.table.specs.Refusal.{badWeights, badHorizon, tooManyStates, shortList}
-use Rattle.table.specs.Table.{weightOf, stateCount, tableChain, unless, tableCheck, TableResult, filled, tableOf}
+use Rattle.table.specs.Table.{stateCount, tableChain, unless, tableCheck, TableResult, filled, tableOf}
 use Rattle.table.specs.Accepted.{Passed, AcceptedCall}
 
 -- there is a state, that of a chart just reset
@@ -42,9 +41,9 @@ unfolding front
 take-front h f d = take-at (tab h f) (drop h d) h (length-tab h f)
 
 -- by and left of the table are together at most probability one, and short of it by at most a unit for each state and point
-pub table-mass : (rs : List Rule) (w : List ℕ) → sum zoneCount (weightOf w) ≡ weightTotal → (n : ℕ)
+pub table-mass : (rs : List Rule) (w : List ℕ) → sum zoneCount (at w) ≡ weightTotal → (n : ℕ)
     → (cdf (tableChain rs w) n + survival (tableChain rs w) n ≤ 2 ^ 60) × (2 ^ 60 ≤ cdf (tableChain rs w) n + survival (tableChain rs w) n + n * stateCount rs)
-table-mass rs w weights n = listed-mass zoneCount (stateCount rs) (moves (stateAutomaton rs)) (weightOf w) (count-some rs) weights n
+table-mass rs w weights n = listed-mass zoneCount (stateCount rs) (moves (stateAutomaton rs)) (at w) (count-some rs) weights n
 
 passed : (t : Bool) (x : Refusal) → unless t x ≡ Accepted → t ≡ true
 passed true x e = refl
@@ -54,7 +53,7 @@ check-passed : (l : RuleList) (w : List ℕ) (h m n : ℕ) → tableCheck l w h 
 unfolding tableCheck
 check-passed l w h m n e =
     let a = both (checkOf l) _ e in
-    let b = both (unless (eqb (sum zoneCount (weightOf w)) weightTotal) badWeights) _ (a .1) in
+    let b = both (unless (eqb (sum zoneCount (at w)) weightTotal) badWeights) _ (a .1) in
     let c = both (unless (within minHorizon maxHorizon h) badHorizon) _ (b .1) in
     let d = both (unless (leb (stateCount (activeRules l)) maxStates) tooManyStates) _ (c .1) in
     let f = both (unless (leb h m) shortList) _ (d .1) in

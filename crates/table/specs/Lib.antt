@@ -1,6 +1,4 @@
 -- The definitions and laws of the table operation.
-pub mod Limits
-pub mod Refusal
 pub mod Table
 pub mod PrefixLaws
 pub mod TableLaws

@@ -3,28 +3,23 @@ use Prim.Native.Nat.{ℕ, suc, _/_, _%_}
 use mathlib.Core.Bool.{Bool, cond}
 use mathlib.Core.List.{List}
 use lib.Dec.{leb, eqb}
-use lib.ListN.{length, getD}
+use lib.ListN.{length}
 use Rattle.rules.specs.declared.Rule.{Rule}
 use Rattle.rules.specs.declared.RuleList.{RuleList}
-use Rattle.rules.specs.declared.Refusal.{Refusal}
+use Rattle.rules.specs.declared.refusal.Refusal.{Refusal}
 use Rattle.rules.specs.declared.Checked.{Checked}
 use Rattle.rules.specs.declared.Checked.the-variants.{Accepted, Refused}
 use Rattle.rules.specs.Bounds.{zoneCount, maxStates}
 use Rattle.rules.specs.Check.{within, orElse, activeRules, checkOf}
-use Rattle.runlength.specs.Sum.{sum, front}
+use Rattle.runlength.specs.Sum.{at, sum, front}
 use Rattle.runlength.specs.Chain.{Chain, pmf, survival, restrictedMean}
 use Rattle.runlength.specs.Listed.{listedChain}
 use Rattle.states.specs.States.{states, moves}
 use Rattle.states.specs.Automata.{stateAutomaton}
-use Rattle.rows.specs.Limits.{maxHorizon, weightTotal, unitsPerOne}
-use Rattle.table.specs.Limits.{minHorizon}
-use Rattle.table.specs.Refusal.{badWeights, badHorizon, tooManyStates, shortList}
+use Rattle.rules.specs.Refusal.{badWeights, badHorizon, tooManyStates, shortList}
+use Rattle.runlength.specs.Scale.{maxHorizon, weightTotal, unitsPerOne, minHorizon}
 use Rattle.table.specs.declared.TableFigures.{TableFigures}
 use Rattle.table.specs.declared.TableAnswer.{TableAnswer}
-
--- the weight of a zone
-abbrev pub weightOf : List ℕ → ℕ → ℕ
-weightOf weights z = getD weights z 0
 
 -- document 01's N: how many states the zone sequences with no signal meet
 unfoldable pub stateCount : List Rule → ℕ
@@ -32,7 +27,7 @@ stateCount rs = length (states (stateAutomaton rs))
 
 -- the chain of the states met, in the order found, with these weights
 abbrev pub tableChain : List Rule → List ℕ → Chain
-tableChain rs weights = listedChain zoneCount (stateCount rs) (moves (stateAutomaton rs)) (weightOf weights)
+tableChain rs weights = listedChain zoneCount (stateCount rs) (moves (stateAutomaton rs)) (at weights)
 
 -- accepted where the test holds, else refused
 abbrev pub unless : Bool → Refusal → Checked
@@ -42,7 +37,7 @@ unless t x = cond t Accepted (Refused x)
 unfoldable pub tableCheck : RuleList → List ℕ → ℕ → ℕ → ℕ → Checked
 tableCheck l weights horizon pmfLength survivalLength =
     orElse (checkOf l)
-    (orElse (unless (eqb (sum zoneCount (weightOf weights)) weightTotal) badWeights)
+    (orElse (unless (eqb (sum zoneCount (at weights)) weightTotal) badWeights)
     (orElse (unless (within minHorizon maxHorizon horizon) badHorizon)
     (orElse (unless (leb (stateCount (activeRules l)) maxStates) tooManyStates)
     (orElse (unless (leb horizon pmfLength) shortList)

@@ -7,24 +7,23 @@ use lib.ListN.{length, getD, take}
 use lib.Seq.{getD-take}
 use borrow.Author.Tests.{le-leb, lt-leb, eq-eqb, ne-eqb}
 use Rattle.rules.specs.declared.RuleList.{RuleList}
-use Rattle.rules.specs.declared.Refusal.{Refusal}
+use Rattle.rules.specs.declared.refusal.Refusal.{Refusal}
 use Rattle.rules.specs.declared.Checked.the-variants.{Accepted, Refused}
 use Rattle.rules.specs.Bounds.{zoneCount, maxStates}
 use Rattle.rules.specs.Check.{activeRules, checkOf}
-use Rattle.runlength.specs.Sum.{sum, front}
+use Rattle.runlength.specs.Sum.{sum, front, at}
 use Rattle.runlength.specs.Chain.{pmf, survival, restrictedMean}
 use Rattle.runlength.specs.Listed.{listedChain}
 use Rattle.states.specs.States.{states, moves}
 use Rattle.states.specs.Automata.{stateAutomaton}
 use Rattle.states.specs.StatesLaws.{states-some}
 use Rattle.states.specs.Explore.{Explored}
-use Rattle.rows.specs.Limits.{maxHorizon, weightTotal, unitsPerOne}
+use Rattle.rules.specs.Refusal.{badWeights, badHorizon, tooManyStates, shortList}
+use Rattle.runlength.specs.Scale.{maxHorizon, weightTotal, unitsPerOne, minHorizon}
 use Rattle.rows.specs.Rows.{Ran}
-use Rattle.table.specs.Limits.{minHorizon}
-use Rattle.table.specs.Refusal.{badWeights, badHorizon, tooManyStates, shortList}
 use Rattle.table.specs.declared.TableFigures.{TableFigures}
 use Rattle.table.specs.declared.TableAnswer.{TableAnswer}
-use Rattle.table.specs.Table.{weightOf, stateCount, tableChain, tableCheck, TableResult, tableResult, figuresOf, filled, tableBy, tableOf}
+use Rattle.table.specs.Table.{stateCount, tableChain, tableCheck, TableResult, tableResult, figuresOf, filled, tableBy, tableOf}
 use Rattle.table.specs.PrefixLaws.{front-cong, pmf-same, survival-same, mean-same}
 
 module _ (l : RuleList) (w : List ℕ) (h : ℕ) (p s : List ℕ) where
@@ -37,26 +36,26 @@ module _ (l : RuleList) (w : List ℕ) (h : ℕ) (p s : List ℕ) where
   bad-rules x e = rw e
 
   module _ (rules : checkOf l ≡ Accepted) where
-    pub bad-weights : (sum zoneCount (weightOf w) ≡ weightTotal → ⊥) → RefusedBy badWeights
+    pub bad-weights : (sum zoneCount (at w) ≡ weightTotal → ⊥) → RefusedBy badWeights
     unfolding tableOf tableCheck
-    bad-weights n = rw (rules, ne-eqb (sum zoneCount (weightOf w)) weightTotal n)
+    bad-weights n = rw (rules, ne-eqb (sum zoneCount (at w)) weightTotal n)
 
-    module _ (weights : sum zoneCount (weightOf w) ≡ weightTotal) where
+    module _ (weights : sum zoneCount (at w) ≡ weightTotal) where
       pub no-horizon : h < minHorizon → RefusedBy badHorizon
       unfolding tableOf tableCheck
-      no-horizon n = rw (rules, eq-eqb (sum zoneCount (weightOf w)) weightTotal weights, lt-leb minHorizon h n)
+      no-horizon n = rw (rules, eq-eqb (sum zoneCount (at w)) weightTotal weights, lt-leb minHorizon h n)
 
       module _ (low : minHorizon ≤ h) where
         pub long-horizon : maxHorizon < h → RefusedBy badHorizon
         unfolding tableOf tableCheck
-        long-horizon n = rw (rules, eq-eqb (sum zoneCount (weightOf w)) weightTotal weights, le-leb minHorizon h low, lt-leb h maxHorizon n)
+        long-horizon n = rw (rules, eq-eqb (sum zoneCount (at w)) weightTotal weights, le-leb minHorizon h low, lt-leb h maxHorizon n)
 
         module _ (high : h ≤ maxHorizon) where
           pub too-many-states : maxStates < stateCount (activeRules l) → RefusedBy tooManyStates
           unfolding tableOf tableCheck
           too-many-states n = rw (
             rules,
-            eq-eqb (sum zoneCount (weightOf w)) weightTotal weights,
+            eq-eqb (sum zoneCount (at w)) weightTotal weights,
             le-leb minHorizon h low,
             le-leb h maxHorizon high,
             lt-leb (stateCount (activeRules l)) maxStates n,
@@ -67,7 +66,7 @@ module _ (l : RuleList) (w : List ℕ) (h : ℕ) (p s : List ℕ) where
             unfolding tableOf tableCheck
             short-pmf n = rw (
               rules,
-              eq-eqb (sum zoneCount (weightOf w)) weightTotal weights,
+              eq-eqb (sum zoneCount (at w)) weightTotal weights,
               le-leb minHorizon h low,
               le-leb h maxHorizon high,
               le-leb (stateCount (activeRules l)) maxStates few,
@@ -79,7 +78,7 @@ module _ (l : RuleList) (w : List ℕ) (h : ℕ) (p s : List ℕ) where
               unfolding tableOf tableCheck
               short-survival n = rw (
                 rules,
-                eq-eqb (sum zoneCount (weightOf w)) weightTotal weights,
+                eq-eqb (sum zoneCount (at w)) weightTotal weights,
                 le-leb minHorizon h low,
                 le-leb h maxHorizon high,
                 le-leb (stateCount (activeRules l)) maxStates few,
@@ -91,7 +90,7 @@ module _ (l : RuleList) (w : List ℕ) (h : ℕ) (p s : List ℕ) where
               unfolding tableOf tableCheck
               accepted-table n = rw (
                 rules,
-                eq-eqb (sum zoneCount (weightOf w)) weightTotal weights,
+                eq-eqb (sum zoneCount (at w)) weightTotal weights,
                 le-leb minHorizon h low,
                 le-leb h maxHorizon high,
                 le-leb (stateCount (activeRules l)) maxStates few,
@@ -121,10 +120,10 @@ module _ (l : RuleList) (w : List ℕ) (h : ℕ) (p s p′ s′ found m : List �
 
   pub rows-filled : tableResult (TableAnswer.Accepted figures) p′ s′ ≡ filled (stateCount (activeRules l)) (tableChain (activeRules l) w) h p s
   rows-filled =
-      let a : last ≡ survival (listedChain zoneCount n met (weightOf w)) h = r .survival-last ∙ survival-same zoneCount n m met (weightOf w) moved h in
-      let b : restrictedMean (listedChain zoneCount n m (weightOf w)) h ≡ restrictedMean (listedChain zoneCount n met (weightOf w)) h = mean-same zoneCount n m met (weightOf w) moved h in
-      let c : whole ≡ restrictedMean (listedChain zoneCount n met (weightOf w)) h / unitsPerOne = r .mean-whole ∙ ap (λ x. x / unitsPerOne) b in
-      let d : fraction ≡ restrictedMean (listedChain zoneCount n met (weightOf w)) h % unitsPerOne = r .mean-fraction ∙ ap (λ x. x % unitsPerOne) b in
-      let f : p′ ≡ front h (λ k. pmf (listedChain zoneCount n met (weightOf w)) (suc k)) p = r .pmf-list ∙ front-cong h _ _ p (pmf-same zoneCount n m met (weightOf w) moved) in
-      let g : s′ ≡ front h (λ k. survival (listedChain zoneCount n met (weightOf w)) (suc k)) s = r .survival-list ∙ front-cong h _ _ s (λ k. survival-same zoneCount n m met (weightOf w) moved (suc k)) in
-      rw (a, c, d, f, g) (ap (λ x. filled x (listedChain zoneCount x met (weightOf w)) h p s) (explored-count l e))
+      let a : last ≡ survival (listedChain zoneCount n met (at w)) h = r .survival-last ∙ survival-same zoneCount n m met (at w) moved h in
+      let b : restrictedMean (listedChain zoneCount n m (at w)) h ≡ restrictedMean (listedChain zoneCount n met (at w)) h = mean-same zoneCount n m met (at w) moved h in
+      let c : whole ≡ restrictedMean (listedChain zoneCount n met (at w)) h / unitsPerOne = r .mean-whole ∙ ap (λ x. x / unitsPerOne) b in
+      let d : fraction ≡ restrictedMean (listedChain zoneCount n met (at w)) h % unitsPerOne = r .mean-fraction ∙ ap (λ x. x % unitsPerOne) b in
+      let f : p′ ≡ front h (λ k. pmf (listedChain zoneCount n met (at w)) (suc k)) p = r .pmf-list ∙ front-cong h _ _ p (pmf-same zoneCount n m met (at w) moved) in
+      let g : s′ ≡ front h (λ k. survival (listedChain zoneCount n met (at w)) (suc k)) s = r .survival-list ∙ front-cong h _ _ s (λ k. survival-same zoneCount n m met (at w) moved (suc k)) in
+      rw (a, c, d, f, g) (ap (λ x. filled x (listedChain zoneCount x met (at w)) h p s) (explored-count l e))

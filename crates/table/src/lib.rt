@@ -1,18 +1,19 @@
 // The run-length table of a rule list: how likely a chart is to signal at each point up to a horizon.
-use rows::UNITS_PER_ONE;
-use rows::WEIGHT_TOTAL;
 use rules::Checked;
 use rules::Refusal;
 use rules::RuleList;
 use rules::ZONES;
+use runlength::MAX_HORIZON;
+use runlength::MIN_HORIZON;
+use runlength::WEIGHT_TOTAL;
 ghost use mathlib.Core.Path.{_≡_};
 ghost use lib.ListN.{length};
 ghost use Rattle.rules.specs.Bounds.{zoneCount};
 ghost use Rattle.rules.specs.Check.{checkOf};
 ghost use Rattle.rules.specs.Refusal.{refusal};
 ghost use Rattle.rules.specs.declared.Checked.the-variants.{Accepted};
-ghost use Rattle.runlength.specs.Sum.{sum};
-ghost use Rattle.table.specs.Table.{weightOf, tableResult, tableOf};
+ghost use Rattle.runlength.specs.Sum.{sum, at};
+ghost use Rattle.table.specs.Table.{tableResult, tableOf};
 
 // What an accepted call answers besides the two lists: document 01's N, left at the horizon, and the cut mean as whole part and fraction
 // in units of 2^-60.
@@ -28,24 +29,6 @@ pub enum TableAnswer {
     Refused(Refusal),
 }
 
-impl TableAnswer {
-    pub const MIN_HORIZON: u32 = 1;
-
-    pub const MAX_HORIZON: u32 = 65535;
-
-    // The weights do not sum to 2^30.
-    pub const WEIGHTS: u32 = 8;
-
-    // The horizon is out of bounds.
-    pub const HORIZON: u32 = 9;
-
-    // The rules have too many states.
-    pub const STATES: u32 = 10;
-
-    // A lent list is shorter than the horizon.
-    pub const SHORT_LIST: u32 = 11;
-}
-
 fn refused(number: u32) -> TableAnswer
     ensures { λ r. ⌜ r ≡ TableAnswer.Refused (refusal number 0) ⌝ }
 {
@@ -55,7 +38,7 @@ fn refused(number: u32) -> TableAnswer
 // The exact sum of the weights: seven 32-bit numbers do not fill 64 bits.
 fn weight_sum(weights: &[u32]) -> u64
     requires { ⌜ length (now weights) ≡ zoneCount ⌝ }
-    ensures { λ r. ⌜ r ≡ sum zoneCount (weightOf (now (weights .entry))) ⌝ }
+    ensures { λ r. ⌜ r ≡ sum zoneCount (at (now (weights .entry))) ⌝ }
 {
     let mut total: u64 = 0;
     let mut z: usize = 0;
@@ -78,26 +61,26 @@ fn checked_table(
     ensures { λ r. ⌜ tableResult r (now (pmf .exit)) (now (survival .exit)) ≡ tableOf list weights horizon (now (pmf .entry)) (now (survival .entry)) ⌝ }
 {
     if weight_sum(&weights) != WEIGHT_TOTAL {
-        return refused(TableAnswer::WEIGHTS);
+        return refused(Refusal::WEIGHTS);
     }
-    if horizon < TableAnswer::MIN_HORIZON {
-        return refused(TableAnswer::HORIZON);
+    if horizon < MIN_HORIZON {
+        return refused(Refusal::HORIZON);
     }
-    if horizon > TableAnswer::MAX_HORIZON {
-        return refused(TableAnswer::HORIZON);
+    if horizon > MAX_HORIZON {
+        return refused(Refusal::HORIZON);
     }
     let mut found = [0u64; RuleList::MAX_STATES];
     let mut moves = [0u16; ZONES * RuleList::MAX_STATES];
     let n = states::explore(list, &mut found, &mut moves);
     if n > RuleList::MAX_STATES {
-        return refused(TableAnswer::STATES);
+        return refused(Refusal::STATES);
     }
     let h = horizon as usize;
     if pmf.len() < h {
-        return refused(TableAnswer::SHORT_LIST);
+        return refused(Refusal::SHORT_LIST);
     }
     if survival.len() < h {
-        return refused(TableAnswer::SHORT_LIST);
+        return refused(Refusal::SHORT_LIST);
     }
     let totals = rows::run_rows(&moves, n, &weights, h, pmf, survival);
     TableAnswer::Accepted(TableFigures {

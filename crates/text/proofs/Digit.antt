@@ -6,7 +6,7 @@ use borrow.Author.Tests.{le-ltb, lt-ltb, eq-eqb, ne-eqb}
 use native.Mathlib.Omega.{arith}
 use lib.ListN.{length, getD, drop, drop-of-length-le}
 use Rattle.text.specs.declared.number.Number.the-variants.{Value, NoNumber}
-use Rattle.text.specs.Decimal.{maxUnsigned}
+use Rattle.rules.specs.Bounds.{maxNumber}
 use Rattle.text.specs.Number.{more, digitsFrom, numberAt}
 use Rattle.text.specs.SpansLaws.{drop-here}
 
@@ -24,11 +24,11 @@ module _ (s : List ℕ) (i v : ℕ) where
     unfolding digitsFrom
     stop-high l = rw (drop-here s i h, le-ltb (getD s i 0) 48 (omega arith), lt-ltb _ _ l)
 
-    pub over : 48 ≤ getD s i 0 → getD s i 0 ≤ 57 → maxUnsigned < more v (getD s i 0) → digitsFrom (drop i s) v i ≡ NoNumber
+    pub over : 48 ≤ getD s i 0 → getD s i 0 ≤ 57 → maxNumber < more v (getD s i 0) → digitsFrom (drop i s) v i ≡ NoNumber
     unfolding digitsFrom
     over l m o = rw (drop-here s i h, le-ltb _ _ l, le-ltb _ _ m, lt-ltb _ _ o)
 
-    pub on : 48 ≤ getD s i 0 → getD s i 0 ≤ 57 → more v (getD s i 0) ≤ maxUnsigned
+    pub on : 48 ≤ getD s i 0 → getD s i 0 ≤ 57 → more v (getD s i 0) ≤ maxNumber
         → digitsFrom (drop i s) v i ≡ digitsFrom (drop (i + 1) s) (more v (getD s i 0)) (i + 1)
     unfolding digitsFrom
     on l m o = rw (drop-here s i h, le-ltb _ _ l, le-ltb _ _ m, le-ltb _ _ o)

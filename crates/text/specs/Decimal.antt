@@ -1,5 +1,5 @@
--- Numbers as bytes: decimal, without needless zeros; a minus before a number below 0; the bounds of 32 bits. Definitions.
-use Prim.Native.Nat.{ℕ, zero, suc, _+_, _/_, _%_}
+-- Numbers as bytes: decimal, without needless zeros; a minus before a number below 0; the bounds of signed numbers. Definitions.
+use Prim.Native.Nat.{ℕ, zero, suc, _+_, _-_, _/_, _%_, _^_}
 use mathlib.Core.List.{List, [], _∷_, _++_}
 use lib.IntN.{ℤ, pos, negsuc}
 
@@ -18,6 +18,10 @@ unfoldable pub decimal : ℕ → List ℕ
 decimal zero = digitByte 0 ∷ []
 decimal (suc n) = digitsOf (suc n) (suc n)
 
+-- the most digits of a number of 64 bits: 2 ^ 64 is between 10 ^ 19 and 10 ^ 20
+abbrev pub numberRoom : ℕ
+numberRoom = 20
+
 -- the byte `-`
 abbrev pub minusByte : ℕ
 minusByte = 45
@@ -27,13 +31,9 @@ unfoldable pub signedDecimal : ℤ → List ℕ
 signedDecimal (pos n) = decimal n
 signedDecimal (negsuc n) = minusByte ∷ decimal (suc n)
 
--- the largest unsigned number of 32 bits
-abbrev pub maxUnsigned : ℕ
-maxUnsigned = 4294967295
-
 -- the largest signed number of 32 bits, and the size of the least
 abbrev pub maxPositive : ℕ
-maxPositive = 2147483647
+maxPositive = 2 ^ 31 - 1
 
 abbrev pub maxNegative : ℕ
-maxNegative = 2147483648
+maxNegative = 2 ^ 31

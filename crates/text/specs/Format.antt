@@ -5,7 +5,8 @@ use lib.IntN.{ℤ, pos, negsuc}
 use Rattle.text.specs.declared.lines.ZoneWeights.{ZoneWeights}
 use Rattle.text.specs.declared.lines.Line.{Line}
 use Rattle.text.specs.declared.lines.Line.the-variants.{Weights, Rule, Horizon, Chart, Point, Other}
-use Rattle.text.specs.Decimal.{decimal, signedDecimal, maxUnsigned, maxPositive, maxNegative}
+use Rattle.rules.specs.Bounds.{maxNumber}
+use Rattle.text.specs.Decimal.{decimal, signedDecimal, maxPositive, maxNegative}
 use Rattle.text.specs.Spans.{Spans}
 use Rattle.text.specs.Word.{comma, newline, weightsWord, ruleWord, horizonWord, chartWord, pointWord}
 
@@ -53,7 +54,7 @@ NotOther Other = ⊥
 
 -- numbers within 32 bits
 abbrev pub Unsigned : ℕ → Type 0
-Unsigned n = n ≤ maxUnsigned
+Unsigned n = n ≤ maxNumber
 
 pub data AllUnsigned : List ℕ → Type 0 where
   none : AllUnsigned []

@@ -3,6 +3,7 @@ pub mod DecimalLaws
 pub mod Spans
 pub mod SpansLaws
 pub mod Word
+pub mod Size
 pub mod WordLaws
 pub mod Number
 pub mod Signed

@@ -8,7 +8,7 @@ use lib.ListN.{length, getD, drop}
 use lib.Dec.{ltb, eqb}
 use Rattle.text.specs.declared.number.Number.{Number}
 use Rattle.text.specs.declared.number.Number.the-variants.{Value, NoNumber}
-use Rattle.text.specs.Decimal.{maxUnsigned}
+use Rattle.rules.specs.Bounds.{maxNumber}
 use Rattle.text.specs.Word.{comma, wordAt, onFound}
 
 -- r is the byte at i, or 0 past the end; a byte other than 0 is within the text
@@ -32,7 +32,7 @@ onDigit b digit other = cond (ltb b 48) other (cond (ltb 57 b) other digit)
 unfoldable pub digitsFrom : List ℕ → ℕ → ℕ → Number
 digitsFrom [] v i = Value v i
 digitsFrom (b ∷ bs) v i =
-    onDigit b (cond (ltb maxUnsigned (more v b)) NoNumber (digitsFrom bs (more v b) (i + 1))) (Value v i)
+    onDigit b (cond (ltb maxNumber (more v b)) NoNumber (digitsFrom bs (more v b) (i + 1))) (Value v i)
 
 -- the number at i: a lone 0, or digits of which the first is not 0
 unfoldable pub numberAt : List ℕ → ℕ → Number

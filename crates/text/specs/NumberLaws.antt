@@ -13,7 +13,8 @@ use Rattle.text.specs.declared.number.Number.{Number}
 use Rattle.text.specs.declared.number.Number.the-variants.{Value, NoNumber}
 use Rattle.text.specs.declared.word.Found.{Found}
 use Rattle.text.specs.declared.word.Found.the-variants.{At, Absent}
-use Rattle.text.specs.Decimal.{digitByte, decimal, maxUnsigned}
+use Rattle.rules.specs.Bounds.{maxNumber}
+use Rattle.text.specs.Decimal.{digitByte, decimal}
 use Rattle.text.specs.DecimalLaws.{decimal-one, decimal-digit}
 use Rattle.text.specs.Spans.{Spans}
 use Rattle.text.specs.SpansLaws.{drop-here, inside, spans-byte, spans-then}
@@ -28,9 +29,9 @@ record Digits (l : List ℕ) (v i n j : ℕ) : Type 0 where
   text : l ≡ ds ++ drop (length ds) l
   bytes : decimal n ≡ decimal v ++ ds
   past : j ≡ i + length ds
-  fits : n ≤ maxUnsigned
+  fits : n ≤ maxNumber
 
-none : {l : List ℕ} {v i n j : ℕ} → v ≤ maxUnsigned → Value v i ≡ Value n j → Digits l v i n j
+none : {l : List ℕ} {v i n j : ℕ} → v ≤ maxNumber → Value v i ≡ Value n j → Digits l v i n j
 none {l} {v} {i} {n} {j} h e =
     let p : v ≡ n = cc in
     let q : i ≡ j = cc in
@@ -60,20 +61,20 @@ is-digit b x y z e = low (ltb b 48) refl e
     low true q e = inl e
     low false q e = high (ltb 57 b) refl (ltb-false _ _ q) e
 
-is-within : (m n j : ℕ) (x : Number) → cond (ltb maxUnsigned m) NoNumber x ≡ Value n j → (m ≤ maxUnsigned) × (x ≡ Value n j)
-is-within m n j x e = go (ltb maxUnsigned m) refl e
+is-within : (m n j : ℕ) (x : Number) → cond (ltb maxNumber m) NoNumber x ≡ Value n j → (m ≤ maxNumber) × (x ≡ Value n j)
+is-within m n j x e = go (ltb maxNumber m) refl e
   where
-    go : (t : Bool) → ltb maxUnsigned m ≡ t → cond t NoNumber x ≡ Value n j → (m ≤ maxUnsigned) × (x ≡ Value n j)
+    go : (t : Bool) → ltb maxNumber m ≡ t → cond t NoNumber x ≡ Value n j → (m ≤ maxNumber) × (x ≡ Value n j)
     go true q e = let z : _≡_ {A = ℕ} 0 1 = cc in absurd (omega arith)
     go false q e = (ltb-false _ _ q, e)
 
-digits-are : (l : List ℕ) (v i n j : ℕ) → 0 < v → v ≤ maxUnsigned → digitsFrom l v i ≡ Value n j → Digits l v i n j
+digits-are : (l : List ℕ) (v i n j : ℕ) → 0 < v → v ≤ maxNumber → digitsFrom l v i ≡ Value n j → Digits l v i n j
 unfolding digitsFrom
 digits-are [] v i n j p h e = none h e
 digits-are (b ∷ bs) v i n j p h e =
     ⊎-elim
     (λ (stop : Value v i ≡ Value n j). none h stop)
-    (λ (d : (48 ≤ b) × (b ≤ 57) × (cond (ltb maxUnsigned (more v b)) NoNumber (digitsFrom bs (more v b) (i + 1)) ≡ Value n j)).
+    (λ (d : (48 ≤ b) × (b ≤ 57) × (cond (ltb maxNumber (more v b)) NoNumber (digitsFrom bs (more v b) (i + 1)) ≡ Value n j)).
     let w = is-within (more v b) n j _ (d .2) in
     some p (d .0) (d .1) (digits-are bs (more v b) (i + 1) n j (omega arith) (w .0) (w .1)))
     (is-digit b _ _ _ e)
@@ -81,7 +82,7 @@ digits-are (b ∷ bs) v i n j p h e =
 -- n stands in decimal at i, up to j
 pub record NumberIs (s : List ℕ) (i n j : ℕ) : Type 0 where
   pub spans : Spans s i (decimal n) j
-  pub fits : n ≤ maxUnsigned
+  pub fits : n ≤ maxNumber
 
 zero-is : (s : List ℕ) (i n j : ℕ) → getD s i 0 ≡ 48 → Value 0 (i + 1) ≡ Value n j → NumberIs s i n j
 unfolding decimal
@@ -117,10 +118,10 @@ number-is s i n j e =
         digits-is s i n j (omega arith) h (digits-are (drop (i + 1) s) (getD s i 0 - 48) (i + 1) n j (omega arith) (omega arith) e)
 
 -- a field that is read as n is a comma and n in decimal
-pub field-is : (s : List ℕ) (i n j : ℕ) → fieldAt s i ≡ Value n j → Spans s i (field n) j × (n ≤ maxUnsigned)
+pub field-is : (s : List ℕ) (i n j : ℕ) → fieldAt s i ≡ Value n j → Spans s i (field n) j × (n ≤ maxNumber)
 unfolding fieldAt
 field-is s i n j e = go (wordAt comma s i) refl e
   where
-    go : (f : Found) → wordAt comma s i ≡ f → onFound f (numberAt s) NoNumber ≡ Value n j → Spans s i (field n) j × (n ≤ maxUnsigned)
+    go : (f : Found) → wordAt comma s i ≡ f → onFound f (numberAt s) NoNumber ≡ Value n j → Spans s i (field n) j × (n ≤ maxNumber)
     go (At p) q e = let r = number-is s p n j e in (spans-then (word-spans comma s i p q) (r .spans), r .fits)
     go Absent q e = let z : _≡_ {A = ℕ} 0 1 = cc in absurd (omega arith)

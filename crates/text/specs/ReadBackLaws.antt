@@ -11,7 +11,8 @@ use lib.Seq.{append-snoc}
 use lib.Dec.{ltb}
 use borrow.Author.Tests.{ltb-true, ltb-false, lt-ltb, le-ltb, ne-eqb}
 use Rattle.text.specs.declared.number.Number.the-variants.{Value}
-use Rattle.text.specs.Decimal.{digitByte, decimal, maxUnsigned}
+use Rattle.rules.specs.Bounds.{maxNumber}
+use Rattle.text.specs.Decimal.{digitByte, decimal}
 use Rattle.text.specs.DecimalLaws.{decimal-one, decimal-more}
 use Rattle.text.specs.Spans.{Spans}
 use Rattle.text.specs.SpansLaws.{drop-here, first-byte, next-bytes, spans-front, spans-back}
@@ -47,13 +48,13 @@ one-digit n p h = record {
 }
 
 -- one digit more
-digit-on : (q d : ℕ) (rest : List ℕ) (i n : ℕ) → d < 10 → q * 10 + d ≡ n → n ≤ maxUnsigned → digitsFrom (digitByte d ∷ rest) q i ≡ digitsFrom rest n (i + 1)
+digit-on : (q d : ℕ) (rest : List ℕ) (i n : ℕ) → d < 10 → q * 10 + d ≡ n → n ≤ maxNumber → digitsFrom (digitByte d ∷ rest) q i ≡ digitsFrom rest n (i + 1)
 unfolding digitsFrom
 digit-on q d rest i n h e l =
     let m : more q (digitByte d) ≡ n = omega arith in
-    rw (le-ltb (digitByte d) 48 (omega arith), le-ltb 57 (digitByte d) (omega arith), m, le-ltb maxUnsigned n l)
+    rw (le-ltb (digitByte d) 48 (omega arith), le-ltb 57 (digitByte d) (omega arith), m, le-ltb maxNumber n l)
 
-one-more : (n : ℕ) → 10 ≤ n → n ≤ maxUnsigned → Opens (n / 10) → Opens n
+one-more : (n : ℕ) → 10 ≤ n → n ≤ maxNumber → Opens (n / 10) → Opens n
 one-more n h l o =
     let d = digitByte (n % 10) in
     record {
@@ -68,7 +69,7 @@ one-more n h l o =
           (o .on (d ∷ rest) i ∙ digit-on (n / 10) (n % 10) rest (i + length (o .others)) n (omega arith) (omega arith) l);
     }
 
-opens : (k n : ℕ) → n ≤ k → 0 < n → n ≤ maxUnsigned → Opens n
+opens : (k n : ℕ) → n ≤ k → 0 < n → n ≤ maxNumber → Opens n
 opens zero n h p l = absurd (omega arith)
 opens (suc k) n h p l =
     ⊎-elim
@@ -89,7 +90,7 @@ digits-end s j v h =
     stop b (inl l) = rw (lt-ltb b 48 l)
     stop b (inr h) = rw (le-ltb b 48 (omega arith), lt-ltb 57 b h)
 
-pub number-read : {s : List ℕ} {i j : ℕ} (n : ℕ) → Spans s i (decimal n) j → n ≤ maxUnsigned → NoDigit (getD s j 0) → numberAt s i ≡ Value n j
+pub number-read : {s : List ℕ} {i j : ℕ} (n : ℕ) → Spans s i (decimal n) j → n ≤ maxNumber → NoDigit (getD s j 0) → numberAt s i ≡ Value n j
 unfolding numberAt decimal
 number-read {s} {i} {j} zero u l h = rw (first-byte s i (u .text), u .end)
 number-read {s} {i} {j} (suc n) u l h =
@@ -100,7 +101,7 @@ number-read {s} {i} {j} (suc n) u l h =
     (o .on (drop j s) (i + 1) ∙ rw k (digits-end s j (suc n) h))
 
 -- a number begins with a digit
-pub number-first : {s : List ℕ} {i j : ℕ} (n : ℕ) → Spans s i (decimal n) j → n ≤ maxUnsigned → 48 ≤ getD s i 0
+pub number-first : {s : List ℕ} {i j : ℕ} (n : ℕ) → Spans s i (decimal n) j → n ≤ maxNumber → 48 ≤ getD s i 0
 unfolding decimal
 number-first {s} {i} {j} zero u l = let e : getD s i 0 ≡ 48 = first-byte s i (u .text) in omega arith
 number-first {s} {i} {j} (suc n) u l =
@@ -108,7 +109,7 @@ number-first {s} {i} {j} (suc n) u l =
     let e : getD s i 0 ≡ o .first = first-byte s i (rw (o .bytes) at (u .text)) in
     omega (arith, o .low)
 
-pub field-read : {s : List ℕ} {i j : ℕ} (n : ℕ) → Spans s i (field n) j → n ≤ maxUnsigned → NoDigit (getD s j 0) → fieldAt s i ≡ Value n j
+pub field-read : {s : List ℕ} {i j : ℕ} (n : ℕ) → Spans s i (field n) j → n ≤ maxNumber → NoDigit (getD s j 0) → fieldAt s i ≡ Value n j
 unfolding fieldAt
 field-read n u l h =
     rw (word-read comma (spans-front comma (decimal n) u)) (number-read n (spans-back comma (decimal n) u) l h)

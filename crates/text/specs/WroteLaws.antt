@@ -7,7 +7,6 @@ use native.Mathlib.Nat.{add-zero}
 use native.Mathlib.Numerals.{add-one}
 use lib.ListN.{length, getD, take, drop, set, length-append, length-drop, take-append-drop}
 use lib.Seq.{set-split, append-snoc, take-suc, take-all, take-at, drop-at, drop-drop, length-take-le}
-use Rattle.text.specs.Spans.{Spans}
 use Rattle.text.specs.Wrote.{Wrote}
 
 pub wrote-nothing : (a : List ℕ) (i : ℕ) → i ≤ length a → Wrote a i a i []
@@ -31,12 +30,6 @@ module _ {a : List ℕ} {i : ℕ} {b : List ℕ} {r : ℕ} {bytes : List ℕ} (u
   wrote-length =
       let e = simp (length-append, length-drop) at (ap length (u .whole)) in
       omega (arith, e, length-take-le i a (omega arith))
-
-  -- what was written stands there
-  pub wrote-spans : Spans b i bytes r
-  wrote-spans =
-      let e : b ≡ take i a ++ (bytes ++ drop r a) = u .whole ∙ rw (← u .end) (append-assoc (take i a) bytes (drop r a)) in
-      record { text = rw wrote-behind (ap (drop i) e ∙ drop-at (take i a) (bytes ++ drop r a) i (length-take-le i a (omega arith))); end = u .end }
 
 -- one writing behind another is one writing
 pub then : {a b c : List ℕ} {i j k : ℕ} {xs ys : List ℕ} → Wrote a i b j xs → Wrote b j c k ys → Wrote a i c k (xs ++ ys)

@@ -1,4 +1,13 @@
 // The programs' text: reading a line at an offset of a lent text, and writing words and numbers into a lent buffer.
+// The longest text that is read, in bytes.
+pub const MAX_TEXT: usize = 65536;
+
+// The fewest bytes of a point line: `point`, a comma, a digit, LF.
+pub const MIN_POINT: usize = 5 + 1 + 1 + 1;
+
+// The most digits of a number of 64 bits.
+pub const NUMBER_ROOM: usize = 20;
+
 mod lines;
 mod number;
 mod reader;

@@ -1,11 +1,15 @@
 // A decimal number at an offset of a text.
 use crate::word::Found;
 use crate::word::past;
+use rules::MAX_NUMBER;
 ghost use mathlib.Core.Path.{_≡_};
 ghost use Prim.Native.Nat.{_≤_};
 ghost use lib.ListN.{drop};
-ghost use Rattle.text.specs.Decimal.{maxUnsigned};
+ghost use Rattle.rules.specs.Bounds.{maxNumber};
 ghost use Rattle.text.specs.Number.{Seen, digitsFrom, numberAt, fieldAt};
+
+// The largest number that is read.
+const LARGEST: u64 = MAX_NUMBER as u64;
 
 // A number and the offset past it.
 pub enum Number {
@@ -28,7 +32,7 @@ fn wide(byte: u8) -> u64
 
 // The digits from `at` on, behind those that gave `before`.
 fn digits(text: &[u8], at: usize, before: u64) -> Number
-    requires { ⌜ before ≤ maxUnsigned ⌝ }
+    requires { ⌜ before ≤ maxNumber ⌝ }
     ensures { λ r. ⌜ r ≡ digitsFrom (drop at (now (text .entry))) before at ⌝ }
 {
     let mut i = at;
@@ -42,7 +46,7 @@ fn digits(text: &[u8], at: usize, before: u64) -> Number
             return Number::Value(v as u32, i);
         }
         v = v * 10 + (wide(b) - 48);
-        if v > 4294967295 {
+        if v > LARGEST {
             return Number::NoNumber;
         }
         i += 1;

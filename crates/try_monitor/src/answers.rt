@@ -1,20 +1,20 @@
 // Printing answers.
 use monitor::Monitor;
 use monitor::Step;
-use monitor::zone::Zoned;
+use monitor::zone::ZoneAnswer;
 use rules::Checked;
 use rules::Rule;
 use show::number;
 use show::refusal;
 use show::text;
 
-pub fn zoned(answer: Zoned) {
+pub fn zoned(answer: ZoneAnswer) {
     match answer {
-        Zoned::Zone(z) => {
+        ZoneAnswer::Zone(z) => {
             number(b" zone ", z as u64);
             text(b"\n");
         }
-        Zoned::Refused(r) => {
+        ZoneAnswer::Refused(r) => {
             refusal(r);
         }
     }

@@ -2,7 +2,7 @@
 use crate::answers;
 use crate::checks::list_of;
 use monitor::Monitor;
-use monitor::zone::Zoned;
+use monitor::zone::ZoneAnswer;
 use monitor::zone::zone_of;
 use rules::Rule;
 use rules::RuleList;
@@ -16,8 +16,8 @@ fn point(name: &[u8], m: Monitor, l: RuleList, zone: u32) -> Monitor {
 fn reading(name: &[u8], m: Monitor, l: RuleList, r: i32) -> Monitor {
     let zoned = zone_of(r, 100, 10);
     match zoned {
-        Zoned::Zone(z) => point(name, m, l, z),
-        Zoned::Refused(_) => m,
+        ZoneAnswer::Zone(z) => point(name, m, l, z),
+        ZoneAnswer::Refused(_) => m,
     }
 }
 
@@ -33,18 +33,18 @@ pub fn example() {
 
 pub fn early_signal() {
     let l = list_of(Rule::new(2, 3, 2), Rule::new(0, 0, 0), 1);
-    let m = point(b"A1", Monitor::fresh(), l, Zoned::A1);
-    point(b"A1", m, l, Zoned::A1);
+    let m = point(b"A1", Monitor::fresh(), l, ZoneAnswer::A1);
+    point(b"A1", m, l, ZoneAnswer::A1);
 }
 
 // Rule 0 is 2,3 on A1 and rule 1 is 3,9 on A1 and B1: rule 1 signals, and rule 0 forgets its hit too, so one more A1 stays quiet.
 pub fn reset_all() {
     let l = list_of(Rule::new(2, 3, 2), Rule::new(3, 9, 6), 2);
-    let m = point(b"B1", Monitor::fresh(), l, Zoned::B1);
-    let m = point(b"B1", m, l, Zoned::B1);
-    let m = point(b"A1", m, l, Zoned::A1);
-    let m = point(b"A1", m, l, Zoned::A1);
-    point(b"A1", m, l, Zoned::A1);
+    let m = point(b"B1", Monitor::fresh(), l, ZoneAnswer::B1);
+    let m = point(b"B1", m, l, ZoneAnswer::B1);
+    let m = point(b"A1", m, l, ZoneAnswer::A1);
+    let m = point(b"A1", m, l, ZoneAnswer::A1);
+    point(b"A1", m, l, ZoneAnswer::A1);
 }
 
 // A step with one rule, from the state and count given.
@@ -136,7 +136,7 @@ pub fn refusals() {
 pub fn unmet_state() {
     let first = Rule::new(2, 2, 2);
     let second = Rule::new(2, 2, 64);
-    pair(b"C1", first, second, 257, Zoned::C1);
-    pair(b"A1", first, second, 257, Zoned::A1);
-    pair(b"A2", first, second, 257, Zoned::A2);
+    pair(b"C1", first, second, 257, ZoneAnswer::C1);
+    pair(b"A1", first, second, 257, ZoneAnswer::A1);
+    pair(b"A2", first, second, 257, ZoneAnswer::A2);
 }

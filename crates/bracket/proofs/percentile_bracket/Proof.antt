@@ -10,7 +10,8 @@ use lib.ListN.{length}
 use borrow.Author.Tests.{leb-true, not-true, not-false}
 use borrow.Author.Needs.{needs}
 use Rattle.rules.specs.Bounds.{maxStates}
-use Rattle.bracket.specs.Limits.{minLength, maxLength, minStates, minPercent, maxPercent, whole}
+use Rattle.runlength.specs.Scale.{minHorizon, maxHorizon, unitsPerOne}
+use Rattle.bracket.specs.Limits.{minStates, minPercent, maxPercent}
 use Rattle.bracket.specs.Bracket.{cdfOf, bracketBy}
 use Rattle.bracket.specs.Accepted.{Accepted}
 use Rattle.bracket.specs.BracketLaws.{accepted-bracket}
@@ -25,7 +26,7 @@ returns : tie.Need-returns
 returns c =
     let a = c .before .before .before .args in
     let pmf = a .pmf .now in
-    c .refused .ensures ∙ sym (refused-length pmf (a .state-count) (a .percent) (under-range minLength maxLength (length pmf) (omega arith)))
+    c .refused .ensures ∙ sym (refused-length pmf (a .state-count) (a .percent) (under-range minHorizon maxHorizon (length pmf) (omega arith)))
 
 refused-requires-2 : tie.Need-refused-requires-2
 refused-requires-2 c κs = search needs
@@ -34,7 +35,7 @@ returns-2 : tie.Need-returns-2
 returns-2 c =
     let a = c .before .before .before .before .args in
     let pmf = a .pmf .now in
-    c .refused2 .ensures ∙ sym (refused-length pmf (a .state-count) (a .percent) (over-range minLength maxLength (length pmf) (omega arith) (omega arith)))
+    c .refused2 .ensures ∙ sym (refused-length pmf (a .state-count) (a .percent) (over-range minHorizon maxHorizon (length pmf) (omega arith) (omega arith)))
 
 refused-requires-3 : tie.Need-refused-requires-3
 refused-requires-3 c κs = search needs
@@ -85,8 +86,8 @@ returns-7 c =
     c .refused7 .ensures ∙ sym (refused-total pmf (a .state-count) (a .percent) (omega arith) (omega arith) (omega arith) (omega arith) (omega arith) (omega arith) (sym (c .before .before .sum-fits .ensures) ∙ not-true (c .before .before .sum-fits .result) (c .before .if7 .taken)))
 
 -- the sum was found to fit
-fits : (pmf : List ℕ) (r : Bool) → r ≡ leb (cdfOf pmf (length pmf)) whole → not r ≡ false → cdfOf pmf (length pmf) ≤ whole
-fits pmf r e h = leb-true (cdfOf pmf (length pmf)) whole (sym e ∙ not-false r h)
+fits : (pmf : List ℕ) (r : Bool) → r ≡ leb (cdfOf pmf (length pmf)) unitsPerOne → not r ≡ false → cdfOf pmf (length pmf) ≤ unitsPerOne
+fits pmf r e h = leb-true (cdfOf pmf (length pmf)) unitsPerOne (sym e ∙ not-false r h)
 
 lower-requires : tie.Need-lower-requires
 lower-requires c κs =

@@ -3,7 +3,7 @@ use mathlib.Core.Path.{_≡_, sym}
 use Prim.Native.Nat.{_+_, _-_, _≤_}
 use native.Mathlib.Omega.{arith}
 use lib.ListN.{length}
-use Rattle.bracket.specs.Limits.{whole}
+use Rattle.runlength.specs.Scale.{unitsPerOne}
 use Rattle.bracket.specs.Bracket.{cdfOf}
 use Rattle.bracket.specs.CdfLaws.{cdf-zero, cdf-more, total-over, total-within}
 use borrow.Author.Needs.{needs}
@@ -11,7 +11,7 @@ use Rattle.bracket.proofs.sum_fits.Statement.{statement}
 use Rattle.bracket.proofs.sum_fits.Tie as tie
 
 abbrev Inv-loop : tie.InvT-loop
-Inv-loop pmf left₀ i₀ left i = (i ≤ length pmf) × (cdfOf pmf i + left ≡ whole)
+Inv-loop pmf left₀ i₀ left i = (i ≤ length pmf) × (cdfOf pmf i + left ≡ unitsPerOne)
 
 abbrev μ-loop : tie.MeasureT-loop
 μ-loop pmf left₀ i₀ left i = length pmf - i

@@ -4,20 +4,19 @@ use Prim.Native.Nat.{_≤_, _*_, _-_}
 use native.Mathlib.Omega.{arith}
 use borrow.Author.Needs.{needs}
 use Rattle.rules.specs.Bounds.{zoneCount}
-use Rattle.runlength.specs.Sum.{sum}
+use Rattle.runlength.specs.Sum.{sum, at}
 use Rattle.runlength.specs.SumLaws.{sum-zero, sum-more}
-use Rattle.table.specs.Table.{weightOf}
 use Rattle.table.proofs.weight_sum.Statement.{statement}
 use Rattle.table.proofs.weight_sum.Tie as tie
 
 abbrev Inv-loop : tie.InvT-loop
-Inv-loop weights total₀ z₀ total z = (z ≤ zoneCount) × (total ≡ sum z (weightOf weights)) × (total ≤ z * 4294967295)
+Inv-loop weights total₀ z₀ total z = (z ≤ zoneCount) × (total ≡ sum z (at weights)) × (total ≤ z * 4294967295)
 
 abbrev μ-loop : tie.MeasureT-loop
 μ-loop weights total₀ z₀ total z = zoneCount - z
 
 loop-holds : tie.Need-loop-holds Inv-loop μ-loop
-loop-holds c = (omega arith, sym (sum-zero (weightOf (c .args .weights .now))), omega arith)
+loop-holds c = (omega arith, sym (sum-zero (at (c .args .weights .now))), omega arith)
 
 mul-total : tie.Need-mul-total Inv-loop μ-loop
 mul-total c = search needs
@@ -39,11 +38,11 @@ loop-less c = search needs
 
 loop-again : tie.Need-loop-again Inv-loop μ-loop
 loop-again c =
-    let at = c .before .before in
-    omega (arith, c .shared-slice-known .given (c .before .before .loop .z), sum-more (at .loop .z) (weightOf (at .before .args .weights .now)))
+    let here = c .before .before in
+    omega (arith, c .shared-slice-known .given (c .before .before .loop .z), sum-more (here .loop .z) (at (here .before .args .weights .now)))
 
 returns : tie.Need-returns Inv-loop μ-loop
-returns c = let at = c .before in let e : at .loop .z ≡ zoneCount = omega arith in at .loop .inv .1 ∙ ap (λ n. sum n (weightOf (at .before .args .weights .now))) e
+returns c = let here = c .before in let e : here .loop .z ≡ zoneCount = omega arith in here .loop .inv .1 ∙ ap (λ n. sum n (at (here .before .args .weights .now))) e
 
 pub weight-sum-spec : {M : Type 1} → statement M
 weight-sum-spec =

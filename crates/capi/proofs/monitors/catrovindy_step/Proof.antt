@@ -1,6 +1,6 @@
 -- `monitors::catrovindy_step` meets its contract: by the step's answer.
 use mathlib.Core.Path.{refl}
-use Rattle.capi.specs.Codes.{listOf}
+use Rattle.capi.specs.Codes.{slotList}
 use Rattle.capi.specs.MonitorCall.{monitorOf}
 use Rattle.capi.specs.MonitorCallLaws.{step-call}
 use borrow.Author.Needs.{needs}
@@ -41,7 +41,7 @@ returns : tie.Need-returns
 returns c =
     let t = c .before .before .before .before in
     let a = t .before .before .before .before .before .args in
-    step-call (listOf (a .slots .now) (a .count)) (t .before .list-of .result) (monitorOf (a .state .now) (a .points .now)) (a .zone) (a .state .now) (a .points .now) (a .answer .now)
+    step-call (slotList (a .slots .now) (a .count)) (t .before .list-of .result) (monitorOf (a .state .now) (a .points .now)) (a .zone) (a .state .now) (a .points .now) (a .answer .now)
     _ _ _ _ (t .step .result) _ (t .before .list-of .ensures) (t .step .ensures) (c .before .before .r .given .1) (c .code .ensures) refl refl refl
 
 returns-2 : tie.Need-returns-2
@@ -49,7 +49,7 @@ returns-2 c =
     let k = c .before .before .before .before .before in
     let t = k .before .before in
     let a = t .before .before .before .before .before .args in
-    step-call (listOf (a .slots .now) (a .count)) (t .before .list-of .result) (monitorOf (a .state .now) (a .points .now)) (a .zone) (a .state .now) (a .points .now) (a .answer .now)
+    step-call (slotList (a .slots .now) (a .count)) (t .before .list-of .result) (monitorOf (a .state .now) (a .points .now)) (a .zone) (a .state .now) (a .points .now) (a .answer .now)
     _ _ _ _ (t .step .result) _ (t .before .list-of .ensures) (t .step .ensures) (k .count .given .1) refl (c .write-step .ensures .0) (c .write-step .ensures .1 .0) (c .write-step .ensures .1 .1)
 
 returns-3 : tie.Need-returns-3
@@ -57,7 +57,7 @@ returns-3 c =
     let k = c .before .before .before .before .before in
     let t = k .before .before in
     let a = t .before .before .before .before .before .args in
-    step-call (listOf (a .slots .now) (a .count)) (t .before .list-of .result) (monitorOf (a .state .now) (a .points .now)) (a .zone) (a .state .now) (a .points .now) (a .answer .now)
+    step-call (slotList (a .slots .now) (a .count)) (t .before .list-of .result) (monitorOf (a .state .now) (a .points .now)) (a .zone) (a .state .now) (a .points .now) (a .answer .now)
     _ _ _ _ (t .step .result) _ (t .before .list-of .ensures) (t .step .ensures) (k .count2 .given .1) refl (c .write-step2 .ensures .0) (c .write-step2 .ensures .1 .0) (c .write-step2 .ensures .1 .1)
 
 pub catrovindy-step-spec : {M : Type 1} → statement M

@@ -1,6 +1,6 @@
 -- `plots::catrovindy_plot` meets its contract: by the record's answer.
 use mathlib.Core.Path.{refl}
-use Rattle.capi.specs.Codes.{listOf}
+use Rattle.capi.specs.Codes.{slotList}
 use Rattle.capi.specs.PlotCallLaws.{plot-call}
 use borrow.Author.Needs.{needs}
 use Rattle.capi.proofs.plots.catrovindy_plot.Statement.{statement}
@@ -38,7 +38,7 @@ returns c =
     let t = c .before .before .before .before .before .before .before .before in
     let l = t .before .before .before .before in
     let a = l .before .before .before .before .args in
-    plot-call (listOf (a .slots .now) (a .count)) (l .list-of .result) (a .weights .now) (a .horizon) (a .pmf .now) (a .survival .now) (a .kinds .now) (a .values .now) _ _ _ _ _
+    plot-call (slotList (a .slots .now) (a .count)) (l .list-of .result) (a .weights .now) (a .horizon) (a .pmf .now) (a .survival .now) (a .kinds .now) (a .values .now) _ _ _ _ _
     (t .box-plot .result) _ (l .list-of .ensures) (t .box-plot .ensures) (c .before .before .answer .given .1) (c .code .ensures) refl refl
 
 same-length-3 : tie.Need-same-length-3
@@ -53,7 +53,7 @@ returns-2 c =
     let t = k .before .before .before .before .before .before in
     let l = t .before .before .before .before in
     let a = l .before .before .before .before .args in
-    plot-call (listOf (a .slots .now) (a .count)) (l .list-of .result) (a .weights .now) (a .horizon) (a .pmf .now) (a .survival .now) (a .kinds .now) (a .values .now) _ _ _ _ _
+    plot-call (slotList (a .slots .now) (a .count)) (l .list-of .result) (a .weights .now) (a .horizon) (a .pmf .now) (a .survival .now) (a .kinds .now) (a .values .now) _ _ _ _ _
     (t .box-plot .result) _ (l .list-of .ensures) (t .box-plot .ensures) (k .answer2 .given .1) refl (c .before .before .write-kinds .ensures) (c .write-values .ensures)
 
 pub catrovindy-plot-spec : {M : Type 1} → statement M

@@ -1,6 +1,6 @@
 -- `tables::catrovindy_table` meets its contract: by the table's answer.
 use borrow.Author.Needs.{needs}
-use Rattle.capi.specs.Codes.{listOf}
+use Rattle.capi.specs.Codes.{slotList}
 use Rattle.capi.specs.TableCallLaws.{call-refused, call-accepted}
 use Rattle.capi.proofs.tables.catrovindy_table.Statement.{statement}
 use Rattle.capi.proofs.tables.catrovindy_table.Tie as tie
@@ -46,7 +46,7 @@ returns c =
     let called = c .before .before .before .before .before .before .before .before in
     let made = called .before .before .before .before in
     let a = made .before .before .before .before .args in
-    call-refused (listOf (a .slots .now) (a .count)) (made .list-of .result) (a .weights .now) (a .horizon) (a .pmf .now) (a .survival .now) (a .figures .now) _ _ (called .run-length-table .result)
+    call-refused (slotList (a .slots .now) (a .count)) (made .list-of .result) (a .weights .now) (a .horizon) (a .pmf .now) (a .survival .now) (a .figures .now) _ _ (called .run-length-table .result)
     (made .list-of .ensures) (called .run-length-table .ensures) _ _ (c .before .before .answer .given .1) (c .code .ensures)
 
 same-length-3 : tie.Need-same-length-3
@@ -60,7 +60,7 @@ returns-2 c =
     let called = c .before .before .before .before .before .before .before .before in
     let made = called .before .before .before .before in
     let a = made .before .before .before .before .args in
-    call-accepted (listOf (a .slots .now) (a .count)) (made .list-of .result) (a .weights .now) (a .horizon) (a .pmf .now) (a .survival .now) (a .figures .now) _ _ (called .run-length-table .result)
+    call-accepted (slotList (a .slots .now) (a .count)) (made .list-of .result) (a .weights .now) (a .horizon) (a .pmf .now) (a .survival .now) (a .figures .now) _ _ (called .run-length-table .result)
     (made .list-of .ensures) (called .run-length-table .ensures) _ (c .before .before .answer2 .given .1)
 
 pub catrovindy-table-spec : {M : Type 1} → statement M

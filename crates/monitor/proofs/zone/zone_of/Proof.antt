@@ -6,7 +6,7 @@ use native.Mathlib.Omega.{arith}
 use borrow.Author.Needs.{needs}
 use Rattle.monitor.specs.Zone.{zoneAt}
 use Rattle.monitor.specs.ZoneLaws.{zone-within, zone-low, zone-high}
-use Rattle.monitor.specs.declared.zone.Zoned.the-variants.{Zone}
+use Rattle.monitor.specs.declared.zone.ZoneAnswer.the-variants.{Zone}
 use Rattle.monitor.proofs.zone.zone_of.Statement.{statement}
 use Rattle.monitor.proofs.zone.zone_of.Tie as tie
 

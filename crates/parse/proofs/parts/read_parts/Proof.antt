@@ -52,7 +52,7 @@ use Rattle.text.proofs.lines.Line.Laws as S′
 use Rattle.parse.specs.declared.rule_lines.RulesRead.{RulesRead}
 use Rattle.parse.specs.declared.point_lines.PointsRead.{PointsRead}
 use Rattle.parse.specs.declared.parts.Parts.{Parts}
-use Rattle.parse.specs.Limits.{maxText}
+use Rattle.text.specs.Size.{maxText}
 use Rattle.parse.specs.Rules.{rulesRead}
 use Rattle.parse.specs.Readings.{pointsRead}
 use Rattle.parse.specs.Parts.{parts, partsOf}

@@ -1,11 +1,11 @@
 -- `parse::no_rules` meets its contract: every slot and the length.
 use borrow.Author.Needs.{needs}
-use Rattle.parse.specs.Rules.{listOf, slotsOf}
+use Rattle.parse.specs.Rules.{ruleListOf, slotsOf}
 use Rattle.parse.proofs.rule_lines.no_rules.Statement.{statement}
 use Rattle.parse.proofs.rule_lines.no_rules.Tie as tie
 
 returns : tie.Need-returns
-unfolding listOf slotsOf
+unfolding ruleListOf slotsOf
 returns c = search needs
 
 pub no-rules-spec : {M : Type 1} → statement M

@@ -41,7 +41,7 @@ use denote.Triple.Table.{entered, cited}
 use denote.Triple.Walked.{says, needs, Stays, stay-none, walkOf, goes-none, Walks, ends-at, walked, walk-meets}
 use denote.Exit.{yes}
 use denote.Triple.Clauses.{ensured, lasts}
-use Rattle.parse.specs.Limits.{maxText}
+use Rattle.text.specs.Size.{maxText}
 use Rattle.parse.specs.Rules.{rulesRead}
 use Rattle.text.specs.declared.reader.Reader.{Reader}
 use Rattle.parse.specs.declared.rule_lines.RulesRead.{RulesRead}

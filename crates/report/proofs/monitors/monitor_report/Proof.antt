@@ -9,6 +9,7 @@ use borrow.Author.Tests.{not-true, not-false}
 use Rattle.rules.specs.CheckLaws.{accepted, between}
 use Rattle.monitor.specs.Zone.{minSigma, maxSigma}
 use Rattle.rules.proofs.Tags.{is-accepted}
+use Rattle.report.specs.Points.{monitorRoom}
 use Rattle.report.specs.MonitorReportLaws.{monitor-refused, rules-refused, sigma-refused, text-short, points-few, points-written}
 use Rattle.report.proofs.monitors.monitor_report.Statement.{statement}
 use Rattle.report.proofs.monitors.monitor_report.Tie as tie
@@ -65,7 +66,7 @@ put-points-requires c κs =
     let b = accepted (m .monitor-text .result .list) ok in
     let short = text-short (a .text .now) (a .out .now) (m .monitor-text .result) (m .monitor-text .ensures) (e .if1 .left) ok fits in
     let few = points-few (a .text .now) (a .out .now) (m .monitor-text .result) (m .monitor-text .ensures) (e .if1 .left) ok fits in
-    let size : length (a .out .now) ≡ 401456 = search needs in
+    let size : length (a .out .now) ≡ monitorRoom = search needs in
     ((b .1, b .2), (between minSigma maxSigma (m .monitor-text .result .sigma) fits, (short, omega (arith, few, short, size))))
 
 returns-4 : tie.Need-returns-4

@@ -3,9 +3,8 @@ use mathlib.Core.Path.{_≡_, refl, sym}
 use Prim.Native.Nat.{_-_, _≤_}
 use native.Mathlib.Omega.{arith}
 use lib.ListN.{length}
-use Rattle.runlength.specs.Sum.{sum}
+use Rattle.runlength.specs.Sum.{sum, at}
 use Rattle.runlength.specs.SumLaws.{sum-zero}
-use Rattle.rows.specs.At.{at}
 use Rattle.rows.specs.Edges.{Grouped}
 use Rattle.rows.specs.GroupLaws.{group-start, group-can, group-end, group-more, group-done}
 use borrow.Author.Needs.{needs}

@@ -3,9 +3,8 @@ use mathlib.Core.Path.{_≡_, refl, sym}
 use Prim.Native.Nat.{_-_, _≤_}
 use native.Mathlib.Omega.{arith}
 use lib.ListN.{length}
-use Rattle.runlength.specs.Sum.{sum}
+use Rattle.runlength.specs.Sum.{sum, at}
 use Rattle.runlength.specs.SumLaws.{sum-zero}
-use Rattle.rows.specs.At.{at}
 use Rattle.rows.specs.Flow.{Pushed}
 use Rattle.rows.specs.FlowLaws.{push-start, push-can, push-more, push-end, push-done}
 use borrow.Author.Needs.{needs}

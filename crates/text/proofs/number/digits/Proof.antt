@@ -5,13 +5,13 @@ use mathlib.Core.Path.{_≡_, refl, sym, ap, _∙_}
 use Prim.Native.Nat.{_≤_, _-_}
 use lib.ListN.{length, drop}
 use Rattle.text.proofs.Digit.{stop-end, stop-low, stop-high, over, on}
-use Rattle.text.specs.Decimal.{maxUnsigned}
+use Rattle.rules.specs.Bounds.{maxNumber}
 use Rattle.text.specs.Number.{more, digitsFrom}
 use Rattle.text.proofs.number.digits.Statement.{statement}
 use Rattle.text.proofs.number.digits.Tie as tie
 
 abbrev Inv-loop : tie.InvT-loop
-Inv-loop text at before i₀ v₀ i v = (v ≤ maxUnsigned) × (digitsFrom (drop i text) v i ≡ digitsFrom (drop at text) before at)
+Inv-loop text at before i₀ v₀ i v = (v ≤ maxNumber) × (digitsFrom (drop i text) v i ≡ digitsFrom (drop at text) before at)
 
 abbrev μ-loop : tie.MeasureT-loop
 μ-loop text at before i₀ v₀ i v = length text - i
