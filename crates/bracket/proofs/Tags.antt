@@ -3,10 +3,10 @@ use mathlib.Core.Path.{_≡_, refl}
 use mathlib.Core.Option.{none}
 use native.Mathlib.Omega.{arith}
 use denote.Enum.Declared.{tagOf}
-use Rattle.bracket.specs.declared.Reached.{Reached}
-use Rattle.bracket.specs.declared.Reached.the-variants.{First, Never}
+use Rattle.bracket.specs.declared.search.Reached.{Reached}
+use Rattle.bracket.specs.declared.search.Reached.the-variants.{First, Never}
 use Rattle.bracket.specs.Reached.{optionOf}
-use Rattle.bracket.proofs.Reached.{the-type}
+use Rattle.bracket.proofs.search.Reached.{the-type}
 
 pub is-never : (a : Reached) → tagOf the-type a ≡ 1 → optionOf a ≡ none
 is-never (First n) h = absurd (omega arith)

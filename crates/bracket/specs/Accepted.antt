@@ -1,11 +1,11 @@
--- The calls that no refusal applies to. Definitions.
+-- The calls that no refusal applies to. Definition.
 use Prim.Native.Nat.{ℕ, _≤_}
 use mathlib.Core.List.{List}
 use lib.ListN.{length}
 use Rattle.rules.specs.Bounds.{maxStates}
 use Rattle.runlength.specs.Scale.{minHorizon, maxHorizon, unitsPerOne}
 use Rattle.bracket.specs.Limits.{minStates, minPercent, maxPercent}
-use Rattle.bracket.specs.Bracket.{cdfOf}
+use Rattle.runlength.specs.Chain.{cdfOf}
 
 -- none of 12 to 15 applies
 pub record Accepted (pmf : List ℕ) (states p : ℕ) : Type 0 where

@@ -1,48 +1,62 @@
 -- Laws of the percentile bracket: what an accepted call answers, and how the two bounds stand to each other.
 use mathlib.Core.Path.{_≡_, refl, ap, ap₂, _∙_}
-use mathlib.Core.Bool.{Bool, cond}
+use mathlib.Core.Bool.{Bool, true, false, cond}
 use mathlib.Core.List.{List}
 use mathlib.Core.Option.{Option, none, some}
 use Prim.Native.Nat.{ℕ, _+_, _*_, _≤_, _<_}
 use native.Mathlib.Nat.{mul-le-mul}
 use native.Mathlib.Omega.{arith}
-use lib.Dec.{T, eqb, leb→le, lt→ltb}
+use lib.Dec.{T, eqb, leb→le, lt→ltb, eqb→eq}
 use lib.ListN.{length}
 use borrow.Author.Tests.{le-leb, eq-eqb, ne-eqb}
-use Rattle.runlength.specs.Percentile.{least, Percentile}
-use Rattle.runlength.specs.PercentileLaws.{least-none, least-percentile}
-use Rattle.bracket.specs.declared.BracketAnswer.the-variants.{At, Between, Open, Beyond}
+use Rattle.runlength.specs.Percentile.{least, Percentile, Contains}
+use Rattle.runlength.specs.PercentileLaws.{least-none, least-percentile, contains-exact}
+use Rattle.bracket.specs.declared.Place.the-variants.{At, Between, Open, Beyond}
+use Rattle.bracket.specs.declared.BracketAnswer.the-variants.{Accepted}
 use Rattle.runlength.specs.Scale.{unitsPerOne, percentsPerOne}
-use Rattle.bracket.specs.Bracket.{cdfOf, highTest, lowTest, bracketBy, bracketOf}
-use Rattle.bracket.specs.Accepted.{Accepted}
+use Rattle.runlength.specs.Chain.{cdfOf}
+use Rattle.bracket.specs.Bracket.{reaches, passes, highTest, lowTest, placeBy, percentilePlace, bracketOf}
+use Rattle.bracket.specs.Contains.{PlaceContains}
+use Rattle.bracket.specs.Accepted as Call
 use Rattle.bracket.specs.RefusedLaws.{answered}
 
--- an accepted call is answered by the least numbers that pass the two tests
-pub accepted-bracket : (pmf : List ℕ) (states p : ℕ) → Accepted pmf states p
-    → bracketOf pmf states p ≡ bracketBy (least (lowTest pmf states p) (length pmf)) (least (highTest pmf p) (length pmf)) (length pmf)
+-- an accepted call is answered by its place
+pub accepted-bracket : (pmf : List ℕ) (states p : ℕ) → Call.Accepted pmf states p → bracketOf pmf states p ≡ Accepted (percentilePlace pmf states p)
 accepted-bracket pmf states p a =
-    answered pmf states p (a .not-empty) (a .short) (a .some-states) (a .few-states) (a .some-percent) (a .part-percent) (le-leb (cdfOf pmf (length pmf)) unitsPerOne (a .total))
+    answered pmf states p (a .not-empty) (a .short) (a .some-states) (a .few-states) (a .some-percent) (a .part-percent)
+    (le-leb (cdfOf pmf (length pmf)) unitsPerOne (a .total))
 
--- the answer by the two bounds, case by case
+-- what the two bounds contain, the place that they make contains
+pub place-contains : (test : ℕ → Bool) (h : ℕ) (low high : Option ℕ) → Contains test h low high → PlaceContains test (placeBy low high h)
+unfolding Contains placeBy PlaceContains
+place-contains test h none high c = c
+place-contains test h (some l) none c = c
+place-contains test h (some l) (some u) c = go (eqb l u) (eqb→eq l u)
+  where
+    go : (b : Bool) → (T b → l ≡ u) → PlaceContains test (cond b (At l) (Between l u))
+    go true e = contains-exact test h l u (e tt) c
+    go false e = c
+
+-- the place by the two bounds, case by case
 module _ {low : Option ℕ} (high : Option ℕ) (h : ℕ) where
-  pub by-neither : low ≡ none → bracketBy low high h ≡ Beyond h
-  unfolding bracketBy
-  by-neither p = ap (λ (o : Option ℕ). bracketBy o high h) p
+  pub by-neither : low ≡ none → placeBy low high h ≡ Beyond h
+  unfolding placeBy
+  by-neither p = ap (λ (o : Option ℕ). placeBy o high h) p
 
   module _ {l : ℕ} (at-low : low ≡ some l) where
-    pub by-low : high ≡ none → bracketBy low high h ≡ Open l
-    unfolding bracketBy
-    by-low q = ap₂ (λ (o p : Option ℕ). bracketBy o p h) at-low q
+    pub by-low : high ≡ none → placeBy low high h ≡ Open l
+    unfolding placeBy
+    by-low q = ap₂ (λ (o p : Option ℕ). placeBy o p h) at-low q
 
     module _ {u : ℕ} (at-high : high ≡ some u) where
-      by-both : bracketBy low high h ≡ cond (eqb l u) (At l) (Between l u)
-      unfolding bracketBy
-      by-both = ap₂ (λ (o p : Option ℕ). bracketBy o p h) at-low at-high
+      by-both : placeBy low high h ≡ cond (eqb l u) (At l) (Between l u)
+      unfolding placeBy
+      by-both = ap₂ (λ (o p : Option ℕ). placeBy o p h) at-low at-high
 
-      pub by-equal : l ≡ u → bracketBy low high h ≡ At l
+      pub by-equal : l ≡ u → placeBy low high h ≡ At l
       by-equal e = by-both ∙ ap (λ (b : Bool). cond b (At l) (Between l u)) (eq-eqb l u e)
 
-      pub by-unequal : (l ≡ u → ⊥) → bracketBy low high h ≡ Between l u
+      pub by-unequal : (l ≡ u → ⊥) → placeBy low high h ≡ Between l u
       by-unequal e = by-both ∙ ap (λ (b : Bool). cond b (At l) (Between l u)) (ne-eqb l u e)
 
 -- with anything added, what was reached is passed
@@ -52,7 +66,7 @@ over a x s h l = omega arith
 module _ (pmf : List ℕ) (states p : ℕ) where
   -- what passes the high test passes the low test
   pub high-low : (n : ℕ) → 1 ≤ n → T (highTest pmf p n) → T (lowTest pmf states p n)
-  unfolding highTest lowTest
+  unfolding reaches passes
   high-low n i t =
       lt→ltb _ _ (over (p * unitsPerOne) (cdfOf pmf n) (n * (states + 1)) (leb→le _ _ t) (mul-le-mul {n₁ = 1} {m₁ = 1} {n₂ = n} {m₂ = states + 1} i (omega arith)))
 

@@ -7,31 +7,32 @@ use native.Mathlib.Omega.{arith}
 use lib.Dec.{leb}
 use lib.ListN.{length, getD}
 use borrow.Author.Tests.{le-leb, lt-leb}
+use Rattle.runlength.specs.Sum.{at}
 use Rattle.runlength.specs.SumLaws.{sum-zero, sum-more, sum-upto}
 use Rattle.runlength.specs.Scale.{unitsPerOne}
-use Rattle.bracket.specs.Bracket.{cdfOf}
+use Rattle.runlength.specs.Chain.{cdfOf}
 
 module _ (pmf : List ℕ) where
   pub cdf-zero : cdfOf pmf 0 ≡ 0
   unfolding cdfOf
-  cdf-zero = sum-zero (λ k. getD pmf k 0)
+  cdf-zero = sum-zero (at pmf)
 
   -- one chance more
   pub cdf-more : (n : ℕ) → cdfOf pmf (n + 1) ≡ cdfOf pmf n + getD pmf n 0
   unfolding cdfOf
-  cdf-more n = sum-more n (λ k. getD pmf k 0)
+  cdf-more n = sum-more n (at pmf)
 
   -- fewer chances, a smaller sum
   pub cdf-upto : (m n : ℕ) → m ≤ n → cdfOf pmf m ≤ cdfOf pmf n
   unfolding cdfOf
-  cdf-upto m n h = sum-upto m n (λ k. getD pmf k 0) h
+  cdf-upto m n h = sum-upto m n (at pmf) h
 
   -- a chance over what is left: the whole list sums to more
-  pub total-over : (left i : ℕ) → cdfOf pmf i + left ≡ unitsPerOne → i < length pmf → left < getD pmf i 0
+  pub total-over : (rest i : ℕ) → cdfOf pmf i + rest ≡ unitsPerOne → i < length pmf → rest < getD pmf i 0
       → leb (cdfOf pmf (length pmf)) unitsPerOne ≡ false
-  total-over left i e h l =
+  total-over rest i e h l =
       lt-leb (cdfOf pmf (length pmf)) unitsPerOne (omega (arith, cdf-more i, cdf-upto (i + 1) (length pmf) (omega arith)))
 
   -- nothing is over at the end: the whole list sums to no more
-  pub total-within : (left i : ℕ) → cdfOf pmf i + left ≡ unitsPerOne → i ≡ length pmf → leb (cdfOf pmf (length pmf)) unitsPerOne ≡ true
-  total-within left i e h = le-leb (cdfOf pmf (length pmf)) unitsPerOne (omega (arith, ap (λ (n : ℕ). cdfOf pmf n) h))
+  pub total-within : (rest i : ℕ) → cdfOf pmf i + rest ≡ unitsPerOne → i ≡ length pmf → leb (cdfOf pmf (length pmf)) unitsPerOne ≡ true
+  total-within rest i e h = le-leb (cdfOf pmf (length pmf)) unitsPerOne (omega (arith, ap (λ (n : ℕ). cdfOf pmf n) h))

@@ -1,5 +1,6 @@
 pub mod Limits
 pub mod Bracket
+pub mod Contains
 pub mod Accepted
 pub mod Reached
 pub mod CdfLaws

@@ -1,4 +1,4 @@
--- The search for a bound: what it asks of the list, what it looks for, and what holds on its way. Definitions.
+-- The search for a bound: what it asks of the list, what it looks for, and what holds on its way. Working definitions.
 use Prim.Native.Nat.{ℕ, _+_, _*_, _≤_}
 use mathlib.Core.Path.{_≡_}
 use mathlib.Core.Bool.{Bool}
@@ -7,13 +7,13 @@ use mathlib.Core.Option.{Option, none, some}
 use lib.Dec.{leb}
 use lib.ListN.{length}
 use Rattle.runlength.specs.Percentile.{least}
-use Rattle.bracket.specs.declared.Reached.{Reached}
-use Rattle.bracket.specs.declared.Reached.the-variants.{First, Never}
+use Rattle.bracket.specs.declared.search.Reached.{Reached}
+use Rattle.bracket.specs.declared.search.Reached.the-variants.{First, Never}
 use Rattle.runlength.specs.Scale.{maxHorizon, unitsPerOne}
-use Rattle.bracket.specs.Bracket.{cdfOf}
+use Rattle.runlength.specs.Chain.{cdfOf}
 
 -- a list that is not refused by 12 or 15
-pub record Chances (pmf : List ℕ) : Type 0 where
+pub record Summable (pmf : List ℕ) : Type 0 where
   pub short : length pmf ≤ maxHorizon
   pub total : cdfOf pmf (length pmf) ≤ unitsPerOne
 

@@ -12,8 +12,9 @@ use Rattle.runlength.specs.Percentile.{least}
 use Rattle.runlength.specs.PercentileLaws.{least-cong}
 use Rattle.rules.specs.Bounds.{maxStates}
 use Rattle.runlength.specs.Scale.{maxHorizon, unitsPerOne, percentsPerOne}
-use Rattle.bracket.specs.Bracket.{cdfOf, lowTest, highTest}
-use Rattle.bracket.specs.Reached.{Chances, Searched, reachTest}
+use Rattle.runlength.specs.Chain.{cdfOf}
+use Rattle.bracket.specs.Bracket.{reaches, passes, lowTest, highTest}
+use Rattle.bracket.specs.Reached.{Summable, Searched, reachTest}
 use Rattle.bracket.specs.CdfLaws.{cdf-zero, cdf-more, cdf-upto}
 use Rattle.bracket.specs.LeastLaws.{least-start, least-on, least-here, least-end}
 use Rattle.bracket.specs.QuotientLaws.{at-least-share, over-share}
@@ -32,7 +33,7 @@ module _ (pmf : List ℕ) (slack goal : ℕ) where
     sum-next = omega (arith, cdf-more pmf n, before .summed)
 
     -- which fits 64 bits with room to spare
-    pub next-room : Chances pmf → slack ≤ maxStates + 1 → sum + (getD pmf n 0 + slack) ≤ unitsPerOne + maxHorizon * (maxStates + 1)
+    pub next-room : Summable pmf → slack ≤ maxStates + 1 → sum + (getD pmf n 0 + slack) ≤ unitsPerOne + maxHorizon * (maxStates + 1)
     next-room fits s =
         omega
         (arith, sum-next, fits .total, cdf-upto pmf (n + 1) (length pmf) (omega arith), mul-le-mul {n₁ = n + 1} {m₁ = slack} {n₂ = maxHorizon} {m₂ = maxStates + 1} (omega (arith, fits .short)) s)
@@ -60,7 +61,7 @@ module _ (pmf : List ℕ) (slack goal : ℕ) where
   -- the search with N + 1 for each chance, for the number after the share rounded down, is the search for low
   pub search-low : (states p h : ℕ) → slack ≡ states + 1 → goal ≡ (p * unitsPerOne + percentsPerOne) / percentsPerOne
       → least (reachTest pmf slack goal) h ≡ least (lowTest pmf states p) h
-  unfolding reachTest lowTest
+  unfolding reachTest passes
   search-low states p h s g =
       least-cong (reachTest pmf slack goal) (lowTest pmf states p) h
       (λ n i l. ap₂ (λ (x y : ℕ). leb y (cdfOf pmf n + n * x)) s g ∙ over-share percentsPerOne (omega arith) (p * unitsPerOne) (cdfOf pmf n + n * (states + 1)))
@@ -71,7 +72,7 @@ module _ (pmf : List ℕ) (slack goal : ℕ) where
   -- the search with nothing for each chance, for the share rounded up, is the search for high
   pub search-high : (p h : ℕ) → slack ≡ 0 → goal ≡ (p * unitsPerOne + (percentsPerOne - 1)) / percentsPerOne
       → least (reachTest pmf slack goal) h ≡ least (highTest pmf p) h
-  unfolding reachTest highTest
+  unfolding reachTest reaches
   search-high p h s g =
       least-cong (reachTest pmf slack goal) (highTest pmf p) h
       (λ n i l. ap₂ (λ (x y : ℕ). leb y x) (no-slack n s) g ∙ at-least-share percentsPerOne (omega arith) (p * unitsPerOne) (cdfOf pmf n))

@@ -7,13 +7,13 @@ use lib.Dec.{leb}
 use lib.ListN.{length}
 use borrow.Author.Tests.{le-leb, lt-leb}
 use Rattle.rules.specs.Check.{within}
-use Rattle.runlength.specs.Percentile.{least}
-use Rattle.bracket.specs.declared.BracketAnswer.the-variants.{Refused}
+use Rattle.bracket.specs.declared.BracketAnswer.the-variants.{Accepted, Refused}
 use Rattle.rules.specs.Bounds.{maxStates}
 use Rattle.rules.specs.Refusal.{badListLength, badStateCount, badPercent, badTotal}
 use Rattle.runlength.specs.Scale.{minHorizon, maxHorizon, unitsPerOne}
 use Rattle.bracket.specs.Limits.{minStates, minPercent, maxPercent}
-use Rattle.bracket.specs.Bracket.{cdfOf, lowTest, highTest, bracketBy, bracketOf}
+use Rattle.runlength.specs.Chain.{cdfOf}
+use Rattle.bracket.specs.Bracket.{percentilePlace, bracketOf}
 
 -- a number in its bounds, below them, above them
 module _ (low high x : ℕ) where
@@ -57,6 +57,6 @@ module _ (pmf : List ℕ) (states p : ℕ) where
 
         -- no refusal applies
         pub answered : leb (cdfOf pmf (length pmf)) unitsPerOne ≡ true
-            → bracketOf pmf states p ≡ bracketBy (least (lowTest pmf states p) (length pmf)) (least (highTest pmf p) (length pmf)) (length pmf)
+            → bracketOf pmf states p ≡ Accepted (percentilePlace pmf states p)
         unfolding bracketOf
         answered e = rw (length-in, states-in, percent-in, e)

@@ -1,30 +1,36 @@
-// The percentile bracket of a list of chances: two bounds of the percentile, and the answer that they make.
+// The percentile bracket of a list of chances: where the percentile lies, by two bounds of it.
 use rules::Refusal;
 use rules::RuleList;
 use runlength::MAX_HORIZON;
 use runlength::MIN_HORIZON;
-use runlength::PERCENTS_PER_ONE;
 use runlength::UNITS_PER_ONE;
+use search::Reached;
+use search::lower;
+use search::upper;
 ghost use mathlib.Core.Path.{_≡_};
-ghost use Prim.Native.Nat.{_+_, _*_, _/_, _≤_};
 ghost use lib.Dec.{leb};
 ghost use lib.ListN.{length};
 ghost use Rattle.rules.specs.Refusal.{refusal};
-ghost use Rattle.runlength.specs.Percentile.{least};
+ghost use Rattle.runlength.specs.Scale.{unitsPerOne};
+ghost use Rattle.runlength.specs.Chain.{cdfOf};
 ghost use Rattle.bracket.specs.declared.BracketAnswer.the-variants.{Refused};
-ghost use Rattle.rules.specs.Bounds.{maxStates};
-ghost use Rattle.runlength.specs.Scale.{unitsPerOne, percentsPerOne};
-ghost use Rattle.bracket.specs.Limits.{maxPercent};
-ghost use Rattle.bracket.specs.Bracket.{cdfOf, lowTest, highTest, bracketBy, bracketOf};
-ghost use Rattle.bracket.specs.Reached.{optionOf, reachTest, Chances};
+ghost use Rattle.bracket.specs.Bracket.{placeBy, percentilePlace, bracketOf};
+ghost use Rattle.bracket.specs.Accepted.{Accepted};
+ghost use Rattle.bracket.specs.Reached.{optionOf};
+
+mod search;
 
 // Where the percentile lies: at a number, between two, at one or above, or beyond the list's length.
-pub enum BracketAnswer {
-    Refused(Refusal),
+pub enum Place {
     At(u32),
     Between { low: u32, high: u32 },
     Open(u32),
     Beyond(u32),
+}
+
+pub enum BracketAnswer {
+    Accepted(Place),
+    Refused(Refusal),
 }
 
 impl BracketAnswer {
@@ -41,12 +47,6 @@ impl BracketAnswer {
     pub const MAX_PERCENT: u32 = 99;
 }
 
-// What a search for the least number found.
-enum Reached {
-    First(u32),
-    Never,
-}
-
 // The refusal by a number, which has no place.
 fn refused(number: u32) -> BracketAnswer
     ensures { λ r. ⌜ r ≡ Refused (refusal number 0) ⌝ }
@@ -58,83 +58,45 @@ fn refused(number: u32) -> BracketAnswer
 fn sum_fits(pmf: &[u64]) -> bool
     ensures { λ r. ⌜ r ≡ leb (cdfOf (now (pmf .entry)) (length (now (pmf .entry)))) unitsPerOne ⌝ }
 {
-    let mut left = UNITS_PER_ONE;
+    let mut rest = UNITS_PER_ONE;
     let mut i = 0;
     while i < pmf.len() {
-        if pmf[i] > left {
+        if pmf[i] > rest {
             return false;
         }
-        left -= pmf[i];
+        rest -= pmf[i];
         i += 1;
     }
     true
 }
 
-// The whole part of (percent × 2^60 + more) / 100, with no product over 64 bits.
-fn hundredth(percent: u32, more: u64) -> u64
-    requires { ⌜ (percent ≤ maxPercent) × (more ≤ percentsPerOne) ⌝ }
-    ensures { λ r. ⌜ r ≡ (percent * unitsPerOne + more) / percentsPerOne ⌝ }
-{
-    let share = percent as u64;
-    share * (UNITS_PER_ONE / PERCENTS_PER_ONE)
-        + (share * (UNITS_PER_ONE % PERCENTS_PER_ONE) + more) / PERCENTS_PER_ONE
-}
-
-// The least n at which the first n chances, with `slack` added for each, sum to `goal` or more.
-fn first_reaching(pmf: &[u64], slack: u64, goal: u64) -> Reached
-    requires { ⌜ Chances (now pmf) × (slack ≤ maxStates + 1) ⌝ }
-    ensures { λ r. ⌜ optionOf r ≡ least (reachTest (now (pmf .entry)) slack goal) (length (now (pmf .entry))) ⌝ }
-{
-    let mut sum: u64 = 0;
-    let mut n = 0;
-    while n < pmf.len() {
-        sum += pmf[n] + slack;
-        n += 1;
-        if sum >= goal {
-            return Reached::First(n as u32);
-        }
-    }
-    Reached::Never
-}
-
-// The lower bound: the least n with 100 × (sum + n × (state_count + 1)) over percent × 2^60.
-// 100 × x is over a exactly where x is at least the whole part of (a + 100) / 100.
-fn lower(pmf: &[u64], state_count: u32, percent: u32) -> Reached
-    requires { ⌜ Chances (now pmf) × («state_count» ≤ maxStates) × (percent ≤ maxPercent) ⌝ }
-    ensures { λ r. ⌜ optionOf r ≡ least (lowTest (now (pmf .entry)) «state_count» percent) (length (now (pmf .entry))) ⌝ }
-{
-    let slack = state_count as u64 + 1;
-    let goal = hundredth(percent, PERCENTS_PER_ONE);
-    first_reaching(pmf, slack, goal)
-}
-
-// The upper bound: the least n with 100 × sum at least percent × 2^60.
-// 100 × x is at least a exactly where x is at least the whole part of (a + 99) / 100.
-fn upper(pmf: &[u64], percent: u32) -> Reached
-    requires { ⌜ Chances (now pmf) × (percent ≤ maxPercent) ⌝ }
-    ensures { λ r. ⌜ optionOf r ≡ least (highTest (now (pmf .entry)) percent) (length (now (pmf .entry))) ⌝ }
-{
-    let goal = hundredth(percent, PERCENTS_PER_ONE - 1);
-    first_reaching(pmf, 0, goal)
-}
-
-// The answer that the two bounds make.
-fn placed(low: Reached, high: Reached, len: u32) -> BracketAnswer
-    ensures { λ r. ⌜ r ≡ bracketBy (optionOf low) (optionOf high) len ⌝ }
+// The place that the two bounds make.
+fn placed(low: Reached, high: Reached, len: u32) -> Place
+    ensures { λ r. ⌜ r ≡ placeBy (optionOf low) (optionOf high) len ⌝ }
 {
     let Reached::First(from) = low else {
-        return BracketAnswer::Beyond(len);
+        return Place::Beyond(len);
     };
     let Reached::First(to) = high else {
-        return BracketAnswer::Open(from);
+        return Place::Open(from);
     };
     if from == to {
-        return BracketAnswer::At(from);
+        return Place::At(from);
     }
-    BracketAnswer::Between {
+    Place::Between {
         low: from,
         high: to,
     }
+}
+
+// The place of a percentile, where none of the bracket's refusals applies. For the crates of this repository: it has a `requires`.
+pub fn percentile_place(pmf: &[u64], state_count: u32, percent: u32) -> Place
+    requires { ⌜ Accepted (now pmf) «state_count» percent ⌝ }
+    ensures { λ r. ⌜ r ≡ percentilePlace (now (pmf .entry)) «state_count» percent ⌝ }
+{
+    let low = lower(pmf, state_count, percent);
+    let high = upper(pmf, percent);
+    placed(low, high, pmf.len() as u32)
 }
 
 // The bracket of a percentile by the table's chances and number of states: refused by 12, 13, 14 or 15, the first that applies.
@@ -162,7 +124,5 @@ pub fn percentile_bracket(pmf: &[u64], state_count: u32, percent: u32) -> Bracke
     if !sum_fits(pmf) {
         return refused(Refusal::TOTAL);
     }
-    let low = lower(pmf, state_count, percent);
-    let high = upper(pmf, percent);
-    placed(low, high, pmf.len() as u32)
+    BracketAnswer::Accepted(percentile_place(pmf, state_count, percent))
 }

@@ -4,11 +4,11 @@ use mathlib.Core.List.{List}
 use Prim.Native.Nat.{ℕ}
 use Rattle.bracket.specs.declared.BracketAnswer.{BracketAnswer}
 use Rattle.bracket.specs.Bracket.{bracketOf}
-use Rattle.capi.specs.BracketCall.{bracketCode, bracketAfter, BracketCall}
+use Rattle.capi.specs.BracketCall.{bracketCode, bracketAfter, BracketCalled}
 
 -- b is the bracket's answer, which is x
 pub bracket-call : (pmf : List ℕ) (states p : ℕ) (a a′ : List ℕ) (r : ℕ) (b x : BracketAnswer) → b ≡ bracketOf pmf states p → b ≡ x
-    → r ≡ bracketCode x → a′ ≡ bracketAfter x a → BracketCall pmf states p a a′ r
+    → r ≡ bracketCode x → a′ ≡ bracketAfter x a → BracketCalled pmf states p a a′ r
 bracket-call pmf states p a a′ r b x e q code answer =
     let t : bracketOf pmf states p ≡ x = sym e ∙ q in
     record { code = code ∙ sym (ap bracketCode t); answer = answer ∙ sym (ap (λ (y : BracketAnswer). bracketAfter y a) t) }

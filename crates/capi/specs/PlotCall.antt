@@ -5,12 +5,12 @@ use mathlib.Core.List.{List}
 use lib.Ieee.{Float}
 use lib.ListN.{set}
 use Rattle.rules.specs.Mask.{bit}
-use Rattle.rules.specs.declared.RuleList.{RuleList}
 use Rattle.plot.specs.declared.PlotItem.{PlotItem}
 use Rattle.plot.specs.declared.PlotItem.the-variants.{Point, Span, Open, Beyond}
 use Rattle.plot.specs.declared.PlotRecord.{PlotRecord}
 use Rattle.plot.specs.declared.BoxPlotAnswer.{BoxPlotAnswer}
 use Rattle.plot.specs.declared.BoxPlotAnswer.the-variants.{Accepted, Refused}
+use Rattle.table.specs.Table.{TableCall}
 use Rattle.plot.specs.Plot.{boxPlotOf}
 use Rattle.capi.specs.Codes.{codeOf}
 
@@ -63,9 +63,9 @@ valuesAfter (Accepted p) values = valuesAs p values
 valuesAfter (Refused x) values = values
 
 -- a call of the plot record: the answer's number, and all that was lent, as they then are
-pub record PlotCall (l : RuleList) (w : List ℕ) (h : ℕ) (p s k : List ℕ) (v : List Float) (p′ s′ k′ : List ℕ) (v′ : List Float) (r : ℕ) : Type 0 where
-  pub code : r ≡ plotCode (boxPlotOf l w h p s .answer)
-  pub pmf-list : p′ ≡ boxPlotOf l w h p s .pmfList
-  pub survival-list : s′ ≡ boxPlotOf l w h p s .survivalList
-  pub kinds : k′ ≡ kindsAfter (boxPlotOf l w h p s .answer) k
-  pub values : v′ ≡ valuesAfter (boxPlotOf l w h p s .answer) v
+pub record PlotCalled (t : TableCall) (k : List ℕ) (v : List Float) (p′ s′ k′ : List ℕ) (v′ : List Float) (r : ℕ) : Type 0 where
+  pub code : r ≡ plotCode (boxPlotOf t .answer)
+  pub pmf-list : p′ ≡ boxPlotOf t .pmfList
+  pub survival-list : s′ ≡ boxPlotOf t .survivalList
+  pub kinds : k′ ≡ kindsAfter (boxPlotOf t .answer) k
+  pub values : v′ ≡ valuesAfter (boxPlotOf t .answer) v

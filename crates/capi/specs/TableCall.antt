@@ -6,7 +6,7 @@ use lib.ListN.{set}
 use Rattle.rules.specs.declared.RuleList.{RuleList}
 use Rattle.table.specs.declared.TableAnswer.{TableAnswer}
 use Rattle.table.specs.declared.TableAnswer.the-variants.{Accepted, Refused}
-use Rattle.table.specs.Table.{tableOf}
+use Rattle.table.specs.Table.{TableCall, tableOf}
 use Rattle.capi.specs.Codes.{codeOf}
 
 -- 0 for an accepted call
@@ -16,12 +16,12 @@ tableCode (Refused x) = codeOf x
 
 -- what the figures' array of four places then holds: N, left at the horizon, and the cut mean; a refusal leaves it as it was
 abbrev pub figuresAfter : TableAnswer → List ℕ → List ℕ
-figuresAfter (Accepted f) figures = set (set (set (set figures 0 (f .states)) 1 (f .survival)) 2 (f .«mean_whole»)) 3 (f .«mean_fraction»)
+figuresAfter (Accepted f) figures = set (set (set (set figures 0 (f .«state_count»)) 1 (f .survival)) 2 (f .«mean_whole»)) 3 (f .«mean_fraction»)
 figuresAfter (Refused x) figures = figures
 
 -- a call of the table: the answer's number, and all that was lent, as they then are
-pub record TableCall (l : RuleList) (w : List ℕ) (h : ℕ) (p s f p′ s′ f′ : List ℕ) (r : ℕ) : Type 0 where
-  pub answer : r ≡ tableCode (tableOf l w h p s .answer)
-  pub pmf-list : p′ ≡ tableOf l w h p s .pmfList
-  pub survival-list : s′ ≡ tableOf l w h p s .survivalList
-  pub figures : f′ ≡ figuresAfter (tableOf l w h p s .answer) f
+pub record TableCalled (t : TableCall) (f p′ s′ f′ : List ℕ) (r : ℕ) : Type 0 where
+  pub answer : r ≡ tableCode (tableOf t .answer)
+  pub pmf-list : p′ ≡ tableOf t .pmfList
+  pub survival-list : s′ ≡ tableOf t .survivalList
+  pub figures : f′ ≡ figuresAfter (tableOf t .answer) f

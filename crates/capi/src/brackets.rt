@@ -1,8 +1,9 @@
 // The percentile bracket for callers in C and Rust.
 use crate::codes::code;
 use bracket::BracketAnswer;
+use bracket::Place;
 ghost use mathlib.Core.Path.{_≡_};
-ghost use Rattle.capi.specs.BracketCall.{written, BracketCall};
+ghost use Rattle.capi.specs.BracketCall.{written, placeAs, BracketCalled};
 
 // The three places of an answer.
 fn write_answer(answer: &mut [u32; 3], kind: u32, first: u32, second: u32)
@@ -11,6 +12,18 @@ fn write_answer(answer: &mut [u32; 3], kind: u32, first: u32, second: u32)
     answer[0] = kind;
     answer[1] = first;
     answer[2] = second;
+}
+
+// A percentile's place.
+fn write_place(answer: &mut [u32; 3], place: Place)
+    ensures { λ r. ⌜ now (answer .exit) ≡ placeAs place (now (answer .entry)) ⌝ }
+{
+    match place {
+        Place::At(n) => write_answer(answer, 1, n, n),
+        Place::Between { low, high } => write_answer(answer, 2, low, high),
+        Place::Open(low) => write_answer(answer, 3, low, 0),
+        Place::Beyond(length) => write_answer(answer, 4, length, 0),
+    }
 }
 
 // The percentile bracket: `bracket::percentile_bracket`. Answers 0 and writes 1, n, n for at n; 2, low, high for between; 3, low, 0 for
@@ -22,25 +35,13 @@ pub extern "C" fn catrovindy_bracket(
     percent: u32,
     answer: &mut [u32; 3],
 ) -> u64
-    ensures { λ r. ⌜ BracketCall (now (pmf .entry)) «state_count» percent (now (answer .entry)) (now (answer .exit)) r ⌝ }
+    ensures { λ r. ⌜ BracketCalled (now (pmf .entry)) «state_count» percent (now (answer .entry)) (now (answer .exit)) r ⌝ }
 {
     let found = bracket::percentile_bracket(pmf, state_count, percent);
     match found {
         BracketAnswer::Refused(r) => code(r),
-        BracketAnswer::At(n) => {
-            write_answer(answer, 1, n, n);
-            0
-        }
-        BracketAnswer::Between { low, high } => {
-            write_answer(answer, 2, low, high);
-            0
-        }
-        BracketAnswer::Open(low) => {
-            write_answer(answer, 3, low, 0);
-            0
-        }
-        BracketAnswer::Beyond(length) => {
-            write_answer(answer, 4, length, 0);
+        BracketAnswer::Accepted(place) => {
+            write_place(answer, place);
             0
         }
     }

@@ -9,8 +9,9 @@ use rules::ZONES;
 ghost use mathlib.Core.Path.{_≡_};
 ghost use Prim.Native.Nat.{_<_};
 ghost use Rattle.rules.specs.Mask.{bit};
+ghost use Rattle.table.specs.Table.{tableCall};
 ghost use Rattle.capi.specs.Codes.{slotList};
-ghost use Rattle.capi.specs.PlotCall.{kindOf, firstOf, secondOf, itemAs, kindsAs, itemsAs, valuesAs, PlotCall};
+ghost use Rattle.capi.specs.PlotCall.{kindOf, firstOf, secondOf, itemAs, kindsAs, itemsAs, valuesAs, PlotCalled};
 
 // 1 for a point, 2 for a span, 3 for open, 4 for beyond.
 fn kind(item: PlotItem) -> u32
@@ -122,8 +123,8 @@ pub extern "C" fn catrovindy_plot(
     kinds: &mut [u32; 6],
     values: &mut [f64; 13],
 ) -> u64
-    ensures { λ r. ⌜ PlotCall (slotList (now (slots .entry)) count) (now (weights .entry)) horizon
-        (now (pmf .entry)) (now (survival .entry)) (now (kinds .entry)) (now (values .entry))
+    ensures { λ r. ⌜ PlotCalled (tableCall (slotList (now (slots .entry)) count) (now (weights .entry)) horizon (now (pmf .entry)) (now (survival .entry)))
+        (now (kinds .entry)) (now (values .entry))
         (now (pmf .exit)) (now (survival .exit)) (now (kinds .exit)) (now (values .exit)) r ⌝ }
 {
     let answer = plot::box_plot(list_of(*slots, count), *weights, horizon, pmf, survival);

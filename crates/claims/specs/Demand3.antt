@@ -1,40 +1,44 @@
 -- CLAIMS: demand 3, of what the operations' contracts are equations with and for every input: nothing is asked but an accepted call.
-use mathlib.Core.Path.{_≡_, ap}
+use mathlib.Core.Path.{_≡_, ap, _∙_}
 use mathlib.Core.Bool.{Bool}
 use mathlib.Core.List.{List, []}
-use Prim.Native.Nat.{ℕ, _+_, _-_, _*_, _/_, _^_, _≤_, _<_}
+use Prim.Native.Nat.{ℕ, suc, _+_, _-_, _*_, _/_, _^_, _≤_, _<_}
 use native.Mathlib.Omega.{arith}
 use lib.Dec.{T}
-use lib.ListN.{length, getD}
+use lib.ListN.{length}
 use Rattle.rules.specs.declared.RuleList.{RuleList}
 use Rattle.rules.specs.declared.Checked.the-variants.{Accepted}
 use Rattle.rules.specs.Bounds.{zoneCount}
 use Rattle.rules.specs.Check.{activeRules, checkOf}
-use Rattle.runlength.specs.Sum.{only, at}
+use Rattle.runlength.specs.Scale.{maxHorizon, weightTotal, unitsPerOne}
+use Rattle.runlength.specs.Sum.{at, only}
+use Rattle.runlength.specs.Sequence.{AllBelow}
+use Rattle.runlength.specs.Chain.{survival, cdfOf, meanErrorBound}
+use Rattle.runlength.specs.Conservation.{mass-conservation}
+use Rattle.runlength.specs.CdfBounds.{cdf-lower, cdf-strict-upper}
+use Rattle.runlength.specs.RestrictedMean.{mean-lower, mean-upper}
 use Rattle.runlength.specs.SequenceLaws.{sequences-cong}
 use Rattle.runlength.specs.Automaton.{product}
-use Rattle.runlength.specs.ListedLaws.{listed-cdf-lower, listed-cdf-strict-upper, listed-mean-lower, listed-mean-upper}
 use Rattle.runlength.specs.PercentileLaws.{never-percentile}
 use Rattle.monitor.specs.Step.{freshMonitor}
 use Rattle.monitor.specs.ReferenceChart.{chartAnswers}
 use Rattle.monitor.specs.Calls.{monitorAnswers, refusalNumber, EachAnswer}
-use Rattle.runlength.specs.Sequence.{AllBelow}
 use Rattle.monitor.specs.Agreement.{agreement, no-call-gets-5, no-refused-call}
-use Rattle.states.specs.States.{moves}
-use Rattle.states.specs.Automata.{stateAutomaton}
-use Rattle.runlength.specs.Scale.{maxHorizon}
 use Rattle.table.specs.declared.TableFigures.{TableFigures}
 use Rattle.table.specs.declared.TableAnswer.{TableAnswer}
-use Rattle.table.specs.Table.{stateCount, tableOf}
-use Rattle.table.specs.AcceptedLaws.{count-some, table-mass}
-use Rattle.bracket.specs.declared.BracketAnswer.the-variants.{At, Between, Open, Beyond}
-use Rattle.bracket.specs.Bracket.{cdfOf, bracketOf}
-use Rattle.claims.specs.Exact.{freeAnswers, saysSignal, exactSum, exactMean, monitorSum, reached, ContainsPercentile}
+use Rattle.table.specs.Table.{TableCall, rulesOf, chainOf, tableOf, pmfOf, meanOf}
+use Rattle.table.specs.Accepted.{AcceptedTable}
+use Rattle.table.specs.AcceptedLaws.{accepted-table}
+use Rattle.bracket.specs.declared.Place.the-variants.{At, Between, Open, Beyond}
+use Rattle.bracket.specs.Limits.{minPercent, maxPercent}
+use Rattle.bracket.specs.Bracket.{bracketOf}
+use Rattle.bracket.specs.Contains.{PlaceContains, ContainsPercentile}
+use Rattle.bracket.specs.BracketLaws.{accepted-bracket}
+use Rattle.summary.specs.SummaryLaws.{brackets-accepted}
+use Rattle.claims.specs.Exact.{freeAnswers, saysSignal, exactSum, exactMean, monitorSum, reached}
 use Rattle.claims.specs.ExactLaws.{sum-of-chain, mean-of-chain}
+use Rattle.claims.specs.PercentileLaws.{call-contains}
 use Rattle.claims.specs.MonitorLaws.{monitor-free}
-use Rattle.claims.specs.TableCall.{chancesOf, meanOf, AcceptedCall}
-use Rattle.claims.specs.TableCallLaws.{accepted-call}
-use Rattle.claims.specs.BracketCallLaws.{chances-cdf, left-at, call-contains}
 
 -- ---- the monitor and the plain chart, for every accepted rule list
 
@@ -66,68 +70,65 @@ module _ (l : RuleList) (accepted : checkOf l ≡ Accepted) where
 
 -- ---- the table and the bracket, for every accepted call of the table operation
 
-module _ (l : RuleList) (w : List ℕ) (h : ℕ) (p s : List ℕ) (f : TableFigures) (accepted : tableOf l w h p s .answer ≡ TableAnswer.Accepted f) where
-  call : AcceptedCall l w h p s f
-  call = accepted-call l w h p s f accepted
+module _ (t : TableCall) (f : TableFigures) (accepted : tableOf t .answer ≡ TableAnswer.Accepted f) where
+  call : AcceptedTable t f
+  call = accepted-table t f accepted
 
-  module _ (n : ℕ) (n-min : 1 ≤ n) (n-max : n ≤ h) where
+  module _ (n : ℕ) (n-min : 1 ≤ n) (n-max : n ≤ t .horizon) where
     -- The table's chance of a signal by n never exceeds the exact sum, and falls short of it by less than n × (N + 1) units of 2^-60.
-    pub cdf-bounds : (cdfOf (chancesOf l w h p s) n * 2 ^ (30 * n) ≤ exactSum (activeRules l) w n * 2 ^ 60)
-        × (exactSum (activeRules l) w n * 2 ^ 60 < (cdfOf (chancesOf l w h p s) n + n * (f .states + 1)) * 2 ^ (30 * n))
+    pub cdf-bounds : (cdfOf (pmfOf t) n * weightTotal ^ n ≤ exactSum (rulesOf t) (t .weights) n * unitsPerOne)
+        × (exactSum (rulesOf t) (t .weights) n * unitsPerOne < (cdfOf (pmfOf t) n + n * (f .«state_count» + 1)) * weightTotal ^ n)
     cdf-bounds =
-        let N = stateCount (activeRules l) in
-        let m = moves (stateAutomaton (activeRules l)) in
-        rw (sum-of-chain (activeRules l) w (call .bounds) (call .few) n, chances-cdf l w h p s f call n n-max, call .states-are) (
-          listed-cdf-lower zoneCount N m (at w) (count-some (activeRules l)) (call .weights) n,
-          listed-cdf-strict-upper zoneCount N m (at w) (count-some (activeRules l)) (call .weights) n n-min,
-        )
+        rw (sum-of-chain (rulesOf t) (t .weights) (call .chart .bounds) (call .chart .few) n, call .pmf-cdf n n-max, call .count-is)
+        (cdf-lower (chainOf t) (call .proper) n, cdf-strict-upper (chainOf t) (call .proper) n n-min)
 
     -- The same of what a fresh monitor signals on, every zone sequence of length n fed to it.
-    pub monitor-bounds : (cdfOf (chancesOf l w h p s) n * 2 ^ (30 * n) ≤ monitorSum l w n * 2 ^ 60)
-        × (monitorSum l w n * 2 ^ 60 < (cdfOf (chancesOf l w h p s) n + n * (f .states + 1)) * 2 ^ (30 * n))
-    monitor-bounds = rw (monitor-sum l (call .rules) n (omega (arith, call .high)) w) cdf-bounds
+    pub monitor-bounds : (cdfOf (pmfOf t) n * weightTotal ^ n ≤ monitorSum (t .list) (t .weights) n * unitsPerOne)
+        × (monitorSum (t .list) (t .weights) n * unitsPerOne < (cdfOf (pmfOf t) n + n * (f .«state_count» + 1)) * weightTotal ^ n)
+    monitor-bounds =
+        rw (monitor-sum (t .list) (call .chart .rules) n (omega (arith, call .chart .most-horizon)) (t .weights)) cdf-bounds
 
-    -- The chance by n and what is left at n are together never over 2^60 units, and short of it by at most n × N.
-    pub mass-kept : (cdfOf (chancesOf l w h p s) n + getD (tableOf l w h p s .survivalList) (n - 1) 0 ≤ 2 ^ 60)
-        × (2 ^ 60 ≤ cdfOf (chancesOf l w h p s) n + getD (tableOf l w h p s .survivalList) (n - 1) 0 + n * f .states)
+    -- The chance by n and what is left at n are together never over probability one, and short of it by at most n × N units.
+    pub mass-kept : (cdfOf (pmfOf t) n + at (tableOf t .survivalList) (n - 1) ≤ unitsPerOne)
+        × (unitsPerOne ≤ cdfOf (pmfOf t) n + at (tableOf t .survivalList) (n - 1) + n * f .«state_count»)
     mass-kept =
-        rw (chances-cdf l w h p s f call n n-max, left-at l w h p s f call n n-min n-max, call .states-are)
-        (table-mass (activeRules l) w (call .weights) n)
+        let e : suc (n - 1) ≡ n = omega arith in
+        rw (call .pmf-cdf n n-max, call .survival-at (n - 1) (omega arith) ∙ ap (survival (chainOf t)) e, call .count-is)
+        (mass-conservation (chainOf t) (call .proper) n)
 
   -- For every percent from 1 to 99 the bracket taken from exactly the H chances as written, with this N, is not refused and contains the
   -- true percentile.
-  pub bracket-contains-percentile : (percent : ℕ) → 1 ≤ percent → percent ≤ 99
-      → ContainsPercentile (reached (activeRules l) w percent) (bracketOf (chancesOf l w h p s) (f .states) percent)
-  bracket-contains-percentile percent i j = call-contains l w h p s f call percent i j
+  pub bracket-contains-percentile : (percent : ℕ) → minPercent ≤ percent → percent ≤ maxPercent
+      → ContainsPercentile (reached (rulesOf t) (t .weights) percent) (bracketOf (pmfOf t) (f .«state_count») percent)
+  bracket-contains-percentile percent i j =
+      rw (accepted-bracket (pmfOf t) (f .«state_count») percent (brackets-accepted call percent i j)) (call-contains call percent)
 
   -- The run length cut at H has a mean at or above the table's, by at most N × H × (H - 1) / 2 units.
-  pub mean-bounds : (meanOf f * 2 ^ (30 * h) ≤ exactMean (activeRules l) w h * 2 ^ 60)
-      × (exactMean (activeRules l) w h * 2 ^ 60 ≤ (meanOf f + f .states * h * (h - 1) / 2) * 2 ^ (30 * h))
+  pub mean-bounds : (meanOf f * weightTotal ^ t .horizon ≤ exactMean (rulesOf t) (t .weights) (t .horizon) * unitsPerOne)
+      × (exactMean (rulesOf t) (t .weights) (t .horizon) * unitsPerOne
+      ≤ (meanOf f + f .«state_count» * t .horizon * (t .horizon - 1) / 2) * weightTotal ^ t .horizon)
+  unfolding meanErrorBound
   mean-bounds =
-      let N = stateCount (activeRules l) in
-      let m = moves (stateAutomaton (activeRules l)) in
-      rw (mean-of-chain (activeRules l) w (call .bounds) (call .few) h, call .mean-is, call .states-are) (
-        listed-mean-lower zoneCount N m (at w) (count-some (activeRules l)) (call .weights) h,
-        listed-mean-upper zoneCount N m (at w) (count-some (activeRules l)) (call .weights) h,
-      )
+      rw (mean-of-chain (rulesOf t) (t .weights) (call .chart .bounds) (call .chart .few) (t .horizon), call .mean-is, call .count-is)
+      (mean-lower (chainOf t) (call .proper) (t .horizon), mean-upper (chainOf t) (call .proper) (t .horizon))
 
 -- ---- where no n reaches the percentile, it counts as beyond every number
 
 module _ (test : ℕ → Bool) (never : (n : ℕ) → 1 ≤ n → T (test n) → ⊥) where
   -- 'open from' and 'beyond' then contain it
-  pub never-open : (low : ℕ) → ContainsPercentile test (Open low)
-  unfolding ContainsPercentile
+  pub never-open : (low : ℕ) → PlaceContains test (Open low)
+  unfolding PlaceContains
   never-open low n q = absurd (never-percentile test never n q)
 
-  pub never-beyond : (h : ℕ) → ContainsPercentile test (Beyond h)
-  unfolding ContainsPercentile
+  pub never-beyond : (h : ℕ) → PlaceContains test (Beyond h)
+  unfolding PlaceContains
   never-beyond h n q = absurd (never-percentile test never n q)
 
   -- 'at' and 'between' do not
-  pub never-at : (n : ℕ) → ContainsPercentile test (At n) → ⊥
-  unfolding ContainsPercentile
+  pub never-at : (n : ℕ) → PlaceContains test (At n) → ⊥
+  unfolding PlaceContains
   never-at n q = never-percentile test never n q
 
-  pub never-between : (low high : ℕ) → ContainsPercentile test (Between low high) → ⊥
-  unfolding ContainsPercentile
+  pub never-between : (low high : ℕ) → PlaceContains test (Between low high) → ⊥
+  unfolding PlaceContains
   never-between low high c = never-percentile test never (c .0) (c .1)

@@ -1,5 +1,5 @@
--- What demand 3 compares with, from document 01's own paragraphs: nothing here knows of a state, a chain or a rounded figure. Definitions.
-use Prim.Native.Nat.{ℕ, suc, _*_, _^_, _≤_, _<_}
+-- TO BELIEVE: what demand 3 compares with, from document 01's own paragraphs: nothing here knows of a state, a chain or a rounded figure. Definitions.
+use Prim.Native.Nat.{ℕ, suc, _*_, _^_}
 use mathlib.Core.Bool.{Bool, true, false, cond, _||_}
 use mathlib.Core.List.{List, [], _∷_}
 use lib.Dec.{leb}
@@ -8,12 +8,10 @@ use Rattle.rules.specs.declared.RuleList.{RuleList}
 use Rattle.rules.specs.Bounds.{zoneCount}
 use Rattle.runlength.specs.Sum.{only, sumSequences, at}
 use Rattle.runlength.specs.Automaton.{product}
-use Rattle.runlength.specs.Percentile.{Percentile}
+use Rattle.runlength.specs.Scale.{weightTotal, percentsPerOne}
 use Rattle.monitor.specs.Step.{freshMonitor}
 use Rattle.monitor.specs.ReferenceChart.{Answer, refused, quiet, signal, rowMask, chartBy}
 use Rattle.monitor.specs.Calls.{monitorAnswers}
-use Rattle.bracket.specs.declared.BracketAnswer.{BracketAnswer}
-use Rattle.bracket.specs.declared.BracketAnswer.the-variants.{Refused, At, Between, Open, Beyond}
 
 -- The plain chart, here refusing none, from a row: each zone is added to the row; then quiet with the row's length, or signal with its
 -- length and the mask, and the row is emptied.
@@ -37,12 +35,12 @@ unfoldable pub firstSignal : List Answer → ℕ
 firstSignal [] = 0
 firstSignal (a ∷ rest) = cond (isSignal a) 1 (suc (firstSignal rest))
 
--- The exact sum at n, over 2 ^ (30 * n): each sequence of n zones on which the plain chart says signal at least once, by the product of its
+-- The exact sum at n, over weightTotal ^ n: each sequence of n zones on which the plain chart says signal at least once, by the product of its
 -- weights.
 unfoldable pub exactSum : List Rule → List ℕ → ℕ → ℕ
 exactSum rs w n = sumSequences zoneCount n (λ q. only (saysSignal (freeAnswers rs [] q)) (product (at w) q))
 
--- The mean of the run length cut at h, over 2 ^ (30 * h): each sequence of h zones, its product times the number of its first signalling
+-- The mean of the run length cut at h, over weightTotal ^ h: each sequence of h zones, its product times the number of its first signalling
 -- point, or times h where there is none.
 unfoldable pub exactMean : List Rule → List ℕ → ℕ → ℕ
 exactMean rs w h = sumSequences zoneCount h (λ q. product (at w) q * firstSignal (freeAnswers rs [] q))
@@ -54,13 +52,4 @@ monitorSum l w n = sumSequences zoneCount n (λ q. only (saysSignal (monitorAnsw
 
 -- The exact sum at n is at least p hundredths. The true percentile is the n with `Percentile (reached rs w p) n`, if there is one.
 unfoldable pub reached : List Rule → List ℕ → ℕ → ℕ → Bool
-reached rs w p n = leb (p * 2 ^ (30 * n)) (100 * exactSum rs w n)
-
--- The answer contains the true percentile of a test: n (at n), from low to high (between), low or more (open), more than h (beyond). Where
--- nothing is reached there is no percentile, and it counts as beyond every number.
-unfoldable pub ContainsPercentile : (ℕ → Bool) → BracketAnswer → Type 0
-ContainsPercentile test (Refused x) = ⊥
-ContainsPercentile test (At n) = Percentile test n
-ContainsPercentile test (Between low high) = (n : ℕ) × Percentile test n × (low ≤ n) × (n ≤ high)
-ContainsPercentile test (Open low) = (n : ℕ) → Percentile test n → low ≤ n
-ContainsPercentile test (Beyond h) = (n : ℕ) → Percentile test n → h < n
+reached rs w p n = leb (p * weightTotal ^ n) (percentsPerOne * exactSum rs w n)

@@ -1,4 +1,4 @@
--- The exact sum and the exact mean are those of the plain chart as an automaton, and of the chain of the states that are met. Laws.
+-- The exact sum and the exact mean are those of the plain chart as an automaton, and of the chain that the table runs on. Laws.
 use mathlib.Core.Path.{_≡_, refl, ap, _∙_}
 use mathlib.Core.Bool.{Bool, true, false}
 use mathlib.Core.List.{List, [], _∷_}
@@ -9,15 +9,12 @@ use Rattle.rules.specs.Bounds.{zoneCount, maxStates}
 use Rattle.rules.specs.InBounds.{AllInBounds}
 use Rattle.runlength.specs.Sum.{only, at}
 use Rattle.runlength.specs.SequenceLaws.{sequences-cong-all}
-use Rattle.runlength.specs.Automaton.{Automaton, product, signals, runLength, exactCdf, exactRestrictedMean}
-use Rattle.runlength.specs.Listed.{listedAutomaton}
-use Rattle.runlength.specs.Future.{EqualFuture}
+use Rattle.runlength.specs.Automaton.{product, signals, runLength, exactCdf, exactRestrictedMean}
 use Rattle.runlength.specs.FutureLaws.{future-cdf, future-mean}
 use Rattle.monitor.specs.ReferenceChart.{rowMask}
-use Rattle.states.specs.States.{moves}
-use Rattle.states.specs.Automata.{stateAutomaton, referenceAutomaton}
-use Rattle.states.specs.AutomataLaws.{explored-reference}
-use Rattle.table.specs.Table.{stateCount}
+use Rattle.states.specs.Automata.{referenceAutomaton}
+use Rattle.table.specs.TableChain.{exploredCount, tableAutomaton}
+use Rattle.table.specs.TableChainLaws.{chain-future}
 use Rattle.claims.specs.Exact.{freeAnswers, saysSignal, firstSignal, exactSum, exactMean}
 
 module _ (rs : List Rule) where
@@ -52,17 +49,10 @@ module _ (rs : List Rule) where
     unfolding exactMean exactRestrictedMean
     mean-of-chart h = sequences-cong-all zoneCount h (λ q. ap (λ k. product (at w) q * k) (free-runLength q []))
 
-    -- where the states are not too many, they are those of the chain that the table is made of
-    module _ (bounds : AllInBounds rs) (few : stateCount rs ≤ maxStates) where
-      abbrev chain : Automaton ℕ
-      chain = listedAutomaton zoneCount (stateCount rs) (moves (stateAutomaton rs))
+    -- and of the chain that the table runs on
+    module _ (bounds : AllInBounds rs) (few : exploredCount rs ≤ maxStates) where
+      pub sum-of-chain : (n : ℕ) → exactSum rs w n ≡ exactCdf (tableAutomaton rs) (at w) n
+      sum-of-chain n = sum-of-chart n ∙ future-cdf (referenceAutomaton rs) (tableAutomaton rs) (chain-future rs few bounds) (at w) n
 
-      same-future : EqualFuture (referenceAutomaton rs) chain [] 0
-      unfolding stateCount
-      same-future = explored-reference rs bounds few
-
-      pub sum-of-chain : (n : ℕ) → exactSum rs w n ≡ exactCdf (listedAutomaton zoneCount (stateCount rs) (moves (stateAutomaton rs))) (at w) n
-      sum-of-chain n = sum-of-chart n ∙ future-cdf (referenceAutomaton rs) chain same-future (at w) n
-
-      pub mean-of-chain : (h : ℕ) → exactMean rs w h ≡ exactRestrictedMean (listedAutomaton zoneCount (stateCount rs) (moves (stateAutomaton rs))) (at w) h
-      mean-of-chain h = mean-of-chart h ∙ future-mean (referenceAutomaton rs) chain same-future (at w) h
+      pub mean-of-chain : (h : ℕ) → exactMean rs w h ≡ exactRestrictedMean (tableAutomaton rs) (at w) h
+      mean-of-chain h = mean-of-chart h ∙ future-mean (referenceAutomaton rs) (tableAutomaton rs) (chain-future rs few bounds) (at w) h

@@ -1,10 +1,8 @@
--- Demand 3 and the marked examples: definitions, laws, claims.
+-- The claims: demand 3, the plot record, and the marked examples, with the definitions that they speak of.
 pub mod Exact
 pub mod ExactLaws
 pub mod MonitorLaws
-pub mod TableCall
-pub mod TableCallLaws
-pub mod BracketCallLaws
+pub mod PercentileLaws
 pub mod Demand3
 pub mod Marked
 pub mod BoxPlot

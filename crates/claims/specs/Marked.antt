@@ -7,8 +7,9 @@ use Rattle.rules.specs.declared.RuleList.{RuleList}
 use Rattle.rules.specs.Check.{noRule, activeRules, rulesFrom, checkRules, checkOf}
 use Rattle.rules.specs.Ready.{ruleOf}
 use Rattle.rules.specs.Mask.{maskOf}
+use Rattle.runlength.specs.Scale.{unitsPerOne}
 use Rattle.runlength.specs.Sum.{sum, tab, front}
-use Rattle.runlength.specs.Chain.{inflow, signalled, units, pmf, survival, restrictedMean}
+use Rattle.runlength.specs.Chain.{cdfOf, inflow, signalled, units, pmf, survival, restrictedMean}
 use Rattle.runlength.specs.Percentile.{least}
 use Rattle.monitor.specs.declared.zone.ZoneAnswer.{ZoneAnswer}
 use Rattle.monitor.specs.declared.zone.ZoneAnswer.the-variants.{Zone}
@@ -17,17 +18,19 @@ use Rattle.monitor.specs.Window.{hitsUpTo, live}
 use Rattle.monitor.specs.State.{holding, nextState, moveOf}
 use Rattle.states.specs.States.{placeOf, withState, enter, busy, due, next, turns, explored, states, moves}
 use Rattle.table.specs.declared.TableAnswer.{TableAnswer}
-use Rattle.table.specs.Table.{stateCount, tableCheck, TableResult, tableOf}
+use Rattle.table.specs.TableChain.{exploredCount, stateCount, chainMoves, tableAutomaton}
+use Rattle.table.specs.Table.{chartCheck, tableCheck, TableResult, tableCall, tableOf}
 use Rattle.bracket.specs.declared.BracketAnswer.{BracketAnswer}
-use Rattle.bracket.specs.declared.BracketAnswer.the-variants.{At, Between, Open, Beyond}
-use Rattle.bracket.specs.Bracket.{cdfOf, highTest, lowTest, bracketBy, bracketOf}
+use Rattle.bracket.specs.declared.BracketAnswer.the-variants.{Accepted}
+use Rattle.bracket.specs.declared.Place.the-variants.{At, Between, Open, Beyond}
+use Rattle.bracket.specs.Bracket.{reaches, passes, placeBy, percentilePlace, bracketOf}
 
 -- what an example is of
 pub data Figure : Type 0 where
   zone : ZoneAnswer → Figure
   number : ℕ → Figure
-  chances : List ℕ → Figure
-  left : List ℕ → Figure
+  pmfs : List ℕ → Figure
+  survivals : List ℕ → Figure
   answer : TableAnswer → Figure
   bracket : BracketAnswer → Figure
 
@@ -40,12 +43,12 @@ oneRule k m zones =
 abbrev halves : List ℕ
 halves = 0 ∷ 536870912 ∷ 0 ∷ 0 ∷ 536870912 ∷ 0 ∷ 0 ∷ []
 
-abbrev lent : List ℕ
-lent = 0 ∷ 0 ∷ 0 ∷ 0 ∷ []
+abbrev empty : List ℕ
+empty = 0 ∷ 0 ∷ 0 ∷ 0 ∷ []
 
 -- the table of one rule with these
 abbrev tableFor : RuleList → TableResult
-tableFor l = tableOf l halves 4 lent lent
+tableFor l = tableOf (tableCall l halves 4 empty empty)
 
 abbrev listing : RuleList
 listing = oneRule 2 2 2
@@ -63,21 +66,21 @@ marked pick =
     ∷ pick (number (stateCount (activeRules (oneRule 2 3 6)))) (number 3)
     ∷ pick (number (stateCount (activeRules (oneRule 4 5 6)))) (number 10)
     -- the listing: chance and left, N, left at 4 and the cut mean
-    ∷ pick (chances (tableFor listing .pmfList)) (chances (0 ∷ 288230376151711744 ∷ 144115188075855872 ∷ 144115188075855872 ∷ []))
-    ∷ pick (left (tableFor listing .survivalList)) (left (1152921504606846976 ∷ 864691128455135232 ∷ 720575940379279360 ∷ 576460752303423488 ∷ []))
-    ∷ pick (answer (tableFor listing .answer)) (answer (TableAnswer.Accepted (record { states = 2; survival = 576460752303423488; «mean_whole» = 3; «mean_fraction» = 432345564227567616 })))
+    ∷ pick (pmfs (tableFor listing .pmfList)) (pmfs (0 ∷ 288230376151711744 ∷ 144115188075855872 ∷ 144115188075855872 ∷ []))
+    ∷ pick (survivals (tableFor listing .survivalList)) (survivals (1152921504606846976 ∷ 864691128455135232 ∷ 720575940379279360 ∷ 576460752303423488 ∷ []))
+    ∷ pick (answer (tableFor listing .answer)) (answer (TableAnswer.Accepted (record { «state_count» = 2; survival = 576460752303423488; «mean_whole» = 3; «mean_fraction» = 432345564227567616 })))
     -- its brackets of 25 and 75
-    ∷ pick (bracket (bracketOf (tableFor listing .pmfList) (stateCount (activeRules listing)) 25)) (bracket (At 2))
-    ∷ pick (bracket (bracketOf (tableFor listing .pmfList) (stateCount (activeRules listing)) 75)) (bracket (Beyond 4))
+    ∷ pick (bracket (bracketOf (tableFor listing .pmfList) (stateCount (activeRules listing)) 25)) (bracket (Accepted (At 2)))
+    ∷ pick (bracket (bracketOf (tableFor listing .pmfList) (stateCount (activeRules listing)) 75)) (bracket (Accepted (Beyond 4)))
     -- the two short lists
-    ∷ pick (bracket (bracketOf ((2 ^ 59 - 1) ∷ []) 1 50)) (bracket (Open 1))
-    ∷ pick (bracket (bracketOf ((2 ^ 59 - 1) ∷ 1 ∷ []) 1 50)) (bracket (Between 1 2))
+    ∷ pick (bracket (bracketOf ((2 ^ 59 - 1) ∷ []) 1 50)) (bracket (Accepted (Open 1)))
+    ∷ pick (bracket (bracketOf ((2 ^ 59 - 1) ∷ 1 ∷ []) 1 50)) (bracket (Accepted (Between 1 2)))
     -- rule 2,3,2 on the listing's weights
-    ∷ pick (chances (tableFor (oneRule 2 3 2) .pmfList)) (chances (0 ∷ (2 ^ 60 / 4) ∷ (2 ^ 60 / 4) ∷ (2 ^ 60 / 8) ∷ []))
+    ∷ pick (pmfs (tableFor (oneRule 2 3 2) .pmfList)) (pmfs (0 ∷ (unitsPerOne / 4) ∷ (unitsPerOne / 4) ∷ (unitsPerOne / 8) ∷ []))
     ∷ []
 
 pub marked-examples : marked (λ given said. given) ≡ marked (λ given said. said)
-unfolding zoneOf stateCount states moves explored turns next due busy enter withState placeOf moveOf nextState holding maskOf live hitsUpTo
-    tableOf tableCheck checkOf checkRules rulesFrom front tab sum pmf survival restrictedMean units inflow signalled
-    bracketOf bracketBy cdfOf lowTest highTest least
+unfolding zoneOf exploredCount stateCount chainMoves tableAutomaton states moves explored turns next due busy enter withState placeOf moveOf nextState holding maskOf live hitsUpTo
+    tableOf tableCheck chartCheck checkOf checkRules rulesFrom front tab sum pmf survival restrictedMean units inflow signalled
+    bracketOf percentilePlace placeBy cdfOf reaches passes least
 marked-examples = refl

@@ -1,13 +1,10 @@
--- The definitions and laws of the plot record.
+-- The plot record: definitions and laws.
 pub mod Double
 pub mod Mean
 pub mod Item
 pub mod Plot
-pub mod Passed
 pub mod Shown
 pub mod DoubleLaws
 pub mod MeanLaws
 pub mod ItemLaws
-pub mod AcceptedLaws
 pub mod PlotLaws
-pub mod PlotClaims

@@ -1,55 +1,45 @@
--- The plot record, and the operation that makes it: what it answers, and what the two lent lists then hold. Definitions.
-use mathlib.Core.Path.{_≡_}
+-- TO BELIEVE: the plot record, and the operation that makes it: what it answers, and what the two lent lists then hold. Definitions.
 use mathlib.Core.List.{List}
-use Prim.Native.Nat.{ℕ, _+_, _≤_, _<_}
-use lib.ListN.{length, take}
-use Rattle.rules.specs.declared.RuleList.{RuleList}
-use Rattle.rules.specs.Bounds.{maxStates}
-use Rattle.runlength.specs.Scale.{maxHorizon, unitsPerOne}
-use Rattle.table.specs.declared.TableFigures.{TableFigures}
-use Rattle.table.specs.declared.TableAnswer.{TableAnswer}
-use Rattle.table.specs.declared.TableAnswer.the-variants as table
-use Rattle.table.specs.Table.{TableResult, tableOf}
-use Rattle.bracket.specs.Bracket.{cdfOf, bracketOf}
+use Prim.Native.Nat.{ℕ, _+_, _≤_}
+use Rattle.table.specs.Table.{TableCall, meanOf}
+use Rattle.summary.specs.declared.Summary.{Summary}
+use Rattle.summary.specs.declared.SummaryAnswer.{SummaryAnswer}
+use Rattle.summary.specs.declared.SummaryAnswer.the-variants as summary
+use Rattle.summary.specs.Summary.{SummaryResult, summaryOf}
+use Rattle.summary.specs.ErrorBound.{maxErrorBound}
 use Rattle.plot.specs.declared.PlotRecord.{PlotRecord}
 use Rattle.plot.specs.declared.BoxPlotAnswer.{BoxPlotAnswer}
 use Rattle.plot.specs.declared.BoxPlotAnswer.the-variants as plot
 use Rattle.plot.specs.Double.{nearestTo}
-use Rattle.runlength.specs.Chain.{errorBoundOf}
-use Rattle.plot.specs.Mean.{partsPerOne, meanUnits, roundDown, roundUp}
-use Rattle.plot.specs.Item.{itemOf, spreadOf}
+use Rattle.plot.specs.Mean.{partsPerOne, roundDown, roundUp, MeanFits}
+use Rattle.plot.specs.Item.{itemOf, Ordered, spreadOf}
 
--- the mean's lower and upper value in parts of 2^-36, by the table's figures and the horizon
-abbrev pub lowerParts : TableFigures → ℕ
-lowerParts f = roundDown (meanUnits (f .«mean_whole») (f .«mean_fraction»))
+-- the mean's lower and upper value in parts of 2^-36: rounded down; with its error bound, rounded up
+abbrev pub lowerParts : Summary → ℕ
+lowerParts s = roundDown (meanOf (s .figures))
 
-abbrev pub upperParts : TableFigures → ℕ → ℕ
-upperParts f h = roundUp (meanUnits (f .«mean_whole») (f .«mean_fraction») + errorBoundOf (f .states) h)
+abbrev pub upperParts : Summary → ℕ
+upperParts s = roundUp (meanOf (s .figures) + s .«error_bound»)
 
--- the record by a list of chances, the table's figures and the horizon: each double is the one nearest to its exact value
-unfoldable pub recordOf : List ℕ → TableFigures → ℕ → PlotRecord
-recordOf pmf f h = record {
-  p5 = itemOf (bracketOf pmf (f .states) 5);
-  p25 = itemOf (bracketOf pmf (f .states) 25);
-  p50 = itemOf (bracketOf pmf (f .states) 50);
-  p75 = itemOf (bracketOf pmf (f .states) 75);
-  p95 = itemOf (bracketOf pmf (f .states) 95);
-  lower = nearestTo (lowerParts f) partsPerOne;
-  upper = nearestTo (upperParts f h) partsPerOne;
-  iqr = spreadOf (bracketOf pmf (f .states) 25) (bracketOf pmf (f .states) 75) .iqr;
-  «has_iqr» = spreadOf (bracketOf pmf (f .states) 25) (bracketOf pmf (f .states) 75) .«has_iqr»;
+-- the record of a summary: each double is the one nearest to its exact value
+unfoldable pub recordOf : Summary → PlotRecord
+recordOf s = record {
+  p5 = itemOf (s .p5);
+  p25 = itemOf (s .p25);
+  p50 = itemOf (s .p50);
+  p75 = itemOf (s .p75);
+  p95 = itemOf (s .p95);
+  lower = nearestTo (lowerParts s) partsPerOne;
+  upper = nearestTo (upperParts s) partsPerOne;
+  iqr = spreadOf (s .p25) (s .p75) .iqr;
+  «has_iqr» = spreadOf (s .p25) (s .p75) .«has_iqr»;
 }
 
--- what the record is made of is in bounds, as an accepted table leaves it
-pub record Plottable (pmf : List ℕ) (f : TableFigures) (h : ℕ) : Type 0 where
-  pub some-horizon : 1 ≤ h
-  pub most-horizon : h ≤ maxHorizon
-  pub some-states : 1 ≤ f .states
-  pub few-states : f .states ≤ maxStates
-  pub whole-part : f .«mean_whole» ≤ maxHorizon
-  pub fraction : f .«mean_fraction» < unitsPerOne
-  pub many : length pmf ≡ h
-  pub total : cdfOf pmf (length pmf) ≤ unitsPerOne
+-- a summary that a record can be made of, as every accepted one is (working definition)
+pub record Plottable (s : Summary) : Type 0 where
+  pub mean : MeanFits (s .figures)
+  pub error : s .«error_bound» ≤ maxErrorBound
+  pub ordered : Ordered (s .p25) (s .p75)
 
 -- the answer, and the two lists as they then are
 pub record BoxPlotResult : Type 0 where
@@ -60,14 +50,14 @@ pub record BoxPlotResult : Type 0 where
 abbrev pub boxPlotResult : BoxPlotAnswer → List ℕ → List ℕ → BoxPlotResult
 boxPlotResult a p s = record { answer = a; pmfList = p; survivalList = s }
 
--- by the table's answer and the list of chances that it leaves, of which the first h count
-unfoldable pub plotBy : TableAnswer → ℕ → List ℕ → BoxPlotAnswer
-plotBy (table.Accepted f) h p = plot.Accepted (recordOf (take h p) f h)
-plotBy (table.Refused x) h p = plot.Refused x
+-- by the summary; refused as the table is
+unfoldable pub plotBy : SummaryAnswer → BoxPlotAnswer
+plotBy (summary.Accepted s) = plot.Accepted (recordOf s)
+plotBy (summary.Refused x) = plot.Refused x
 
--- by the table's result, whose lists it leaves
-abbrev pub plotted : ℕ → TableResult → BoxPlotResult
-plotted h t = boxPlotResult (plotBy (t .answer) h (t .pmfList)) (t .pmfList) (t .survivalList)
+-- with the lists that the table's run left
+abbrev pub plotAfter : SummaryResult → BoxPlotResult
+plotAfter r = boxPlotResult (plotBy (r .answer)) (r .pmfList) (r .survivalList)
 
-unfoldable pub boxPlotOf : RuleList → List ℕ → ℕ → List ℕ → List ℕ → BoxPlotResult
-boxPlotOf l weights h p s = plotted h (tableOf l weights h p s)
+unfoldable pub boxPlotOf : TableCall → BoxPlotResult
+boxPlotOf t = plotAfter (summaryOf t)

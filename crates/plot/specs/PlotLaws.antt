@@ -1,97 +1,102 @@
--- Laws of the plot record: its brackets are accepted, its doubles have exactly their values; and the answer by what the table left.
-use mathlib.Core.Path.{_≡_, sym, ap, _∙_}
+-- Laws of the plot record: it shows its summary exactly; and the answer by what the summary was. Laws.
+use mathlib.Core.Path.{_≡_, refl, sym, ap, _∙_}
 use mathlib.Core.Bool.{false}
 use mathlib.Core.List.{List}
-use Prim.Native.Nat.{ℕ, _≤_}
+use mathlib.Core.Option.{Option, none, some}
+use Prim.Native.Nat.{ℕ, _-_, _≤_}
 use native.Mathlib.Omega.{arith}
 use lib.Dec.{lit≤}
 use lib.Ieee.Exact.{HasValue}
-use lib.ListN.{length, take, length-take}
-use Rattle.rules.specs.declared.RuleList.{RuleList}
+use lib.ListN.{length}
 use Rattle.rules.specs.declared.refusal.Refusal.{Refusal}
-use Rattle.table.specs.declared.TableFigures.{TableFigures}
-use Rattle.table.specs.declared.TableAnswer.{TableAnswer}
-use Rattle.table.specs.Table.{TableResult, tableResult, tableOf}
-use Rattle.bracket.specs.declared.BracketAnswer.the-variants as bracket
-use Rattle.bracket.specs.Limits.{minPercent, maxPercent}
-use Rattle.bracket.specs.Bracket.{bracketOf}
-use Rattle.bracket.specs.Accepted.{Accepted}
+use Rattle.runlength.specs.Scale.{maxHorizon}
+use Rattle.table.specs.Table.{TableCall, pmfOf}
+use Rattle.summary.specs.declared.Summary.{Summary}
+use Rattle.summary.specs.declared.SummaryAnswer.{SummaryAnswer}
+use Rattle.summary.specs.declared.SummaryAnswer.the-variants as summary
+use Rattle.summary.specs.Summary.{summaryBy, SummaryResult, summaryResult, summaryOf}
+use Rattle.summary.specs.Accepted.{AcceptedSummary}
+use Rattle.summary.specs.SummaryLaws.{accepted-summary}
 use Rattle.plot.specs.declared.PlotRecord.{PlotRecord}
 use Rattle.plot.specs.declared.BoxPlotAnswer.{BoxPlotAnswer}
+use Rattle.plot.specs.Double.{nearestTo}
 use Rattle.plot.specs.DoubleLaws.{exact}
-use Rattle.runlength.specs.Chain.{errorBoundOf}
-use Rattle.plot.specs.Mean.{partsPerOne}
-use Rattle.plot.specs.MeanLaws.{error-bound-most, down-fits, up-fits}
-use Rattle.plot.specs.Item.{itemOf, Ordered}
-use Rattle.plot.specs.Shown.{Shows, ShowsBrackets}
-use Rattle.plot.specs.ItemLaws.{shown, ordered, quartiles-shown}
+use Rattle.plot.specs.Mean.{partsPerOne, MeanFits}
+use Rattle.plot.specs.MeanLaws.{down-fits, up-fits}
+use Rattle.plot.specs.Item.{itemOf, pointOf, inOrder, Ordered, spread, spreadOf}
+use Rattle.plot.specs.Shown.{Shows, ShowsSpread, ShowsSummary}
+use Rattle.plot.specs.ItemLaws.{number, shown, point-found, ordered}
 use Rattle.plot.specs.Plot.{lowerParts, upperParts, recordOf, Plottable, boxPlotResult, plotBy, boxPlotOf}
-use Rattle.table.specs.AcceptedLaws.{accepted-call}
-use Rattle.plot.specs.AcceptedLaws.{accepted-plottable}
 
-module _ {pmf : List ℕ} {f : TableFigures} {h : ℕ} (c : Plottable pmf f h) where
-  -- the calls for its brackets are in bounds
-  pub brackets-accepted : (p : ℕ) → minPercent ≤ p → p ≤ maxPercent → Accepted pmf (f .states) p
-  brackets-accepted p low high = record {
-    not-empty = omega (arith, c .many, c .some-horizon);
-    short = omega (arith, c .many, c .most-horizon);
-    some-states = c .some-states;
-    few-states = c .few-states;
-    some-percent = low;
-    part-percent = high;
-    total = c .total;
-  }
+-- ---- a summary of accepted chances
 
-  pub quartiles-ordered : Ordered (bracketOf pmf (f .states) 25) (bracketOf pmf (f .states) 75)
-  quartiles-ordered =
-      ordered pmf (f .states) 25 75 (omega arith) (brackets-accepted 25 (omega arith) (omega arith)) (brackets-accepted 75 (omega arith) (omega arith))
+-- the difference of two points in order, in the list's places, is shown exactly
+spread-shown : (x y : Option ℕ) → inOrder x y → ((k : ℕ) → y ≡ some k → k ≤ maxHorizon) → (r : PlotRecord) → r .iqr ≡ spread x y .iqr
+    → r .«has_iqr» ≡ spread x y .«has_iqr» → ShowsSpread x y r
+spread-shown (some a) (some b) o h r e m = (o, rw e (number (b - a) (omega (arith, h b refl))), m)
+spread-shown (some a) none o h r e m = (rw e (number 0 (omega arith)), m)
+spread-shown none y o h r e m = (rw e (number 0 (omega arith)), m)
 
-  item-shown : (p : ℕ) → minPercent ≤ p → p ≤ maxPercent → Shows (bracketOf pmf (f .states) p) (itemOf (bracketOf pmf (f .states) p))
-  item-shown p low high = shown pmf (f .states) p (brackets-accepted p low high)
+module _ {t : TableCall} {s : Summary} (a : AcceptedSummary t s) where
+  short : length (pmfOf t) ≤ maxHorizon
+  short = omega (arith, a .table .pmf-length, a .table .chart .most-horizon)
 
-  -- the record shows its brackets exactly
-  pub brackets-shown : ShowsBrackets pmf (f .states) (recordOf pmf f h)
-  unfolding recordOf
-  brackets-shown = record {
-    item5 = item-shown 5 (omega arith) (omega arith);
-    item25 = item-shown 25 (omega arith) (omega arith);
-    item50 = item-shown 50 (omega arith) (omega arith);
-    item75 = item-shown 75 (omega arith) (omega arith);
-    item95 = item-shown 95 (omega arith) (omega arith);
+  mean-fits : MeanFits (s .figures)
+  mean-fits = record { whole = a .table .mean-most; fraction = a .table .mean-part }
+
+  in-order : Ordered (s .p25) (s .p75)
+  unfolding summaryBy
+  in-order = rw (a .is) (ordered (pmfOf t) (s .figures .«state_count») 25 75 (omega arith))
+
+  -- a record can be made of it
+  pub summary-plottable : Plottable s
+  summary-plottable = record { mean = mean-fits; error = a .error-most; ordered = in-order }
+
+  -- which shows it exactly
+  pub record-shows : ShowsSummary s (recordOf s)
+  unfolding recordOf summaryBy
+  record-shows = record {
+    item5 = rw (a .is) (shown (pmfOf t) (s .figures .«state_count») 5 short);
+    item25 = rw (a .is) (shown (pmfOf t) (s .figures .«state_count») 25 short);
+    item50 = rw (a .is) (shown (pmfOf t) (s .figures .«state_count») 50 short);
+    item75 = rw (a .is) (shown (pmfOf t) (s .figures .«state_count») 75 short);
+    item95 = rw (a .is) (shown (pmfOf t) (s .figures .«state_count») 95 short);
     quartiles =
-        quartiles-shown pmf (f .states) 25 75 (omega arith) (brackets-accepted 25 (omega arith) (omega arith)) (brackets-accepted 75 (omega arith) (omega arith));
+        spread-shown (pointOf (s .p25)) (pointOf (s .p75)) in-order
+        (λ k e. omega (arith, short, point-found (pmfOf t) (s .figures .«state_count») 75 k (sym (ap (λ (x : Summary). pointOf (x .p75)) (a .is)) ∙ e) .1))
+        (recordOf s) refl refl;
+    lower = exact (lowerParts s) 36 (down-fits (s .figures .«mean_whole») (s .figures .«mean_fraction») (mean-fits .whole) (mean-fits .fraction)) (lit≤ tt);
+    upper =
+        exact (upperParts s) 36
+        (up-fits (s .figures .«mean_whole») (s .figures .«mean_fraction») (mean-fits .whole) (mean-fits .fraction) (s .«error_bound») (a .error-most))
+        (lit≤ tt);
   }
 
-  -- and its bounds of the mean
-  pub lower-exact : HasValue (recordOf pmf f h .lower) false (lowerParts f) partsPerOne
-  unfolding recordOf
-  lower-exact = exact (lowerParts f) 36 (down-fits (f .«mean_whole») (f .«mean_fraction») (c .whole-part) (c .fraction)) (lit≤ tt)
+-- ---- the operation, by the summary of one run of the table
 
-  pub upper-exact : HasValue (recordOf pmf f h .upper) false (upperParts f h) partsPerOne
-  unfolding recordOf
-  upper-exact =
-      exact (upperParts f h) 36
-      (up-fits (f .«mean_whole») (f .«mean_fraction») (c .whole-part) (c .fraction) (errorBoundOf (f .states) h) (error-bound-most (f .states) h (c .few-states) (c .most-horizon)))
-      (lit≤ tt)
-
--- ---- the operation, by what one run of the table left
-
-module _ (l : RuleList) (w : List ℕ) (h : ℕ) (p s : List ℕ) {a : TableAnswer} {p′ s′ : List ℕ} (run : tableResult a p′ s′ ≡ tableOf l w h p s) where
-  -- refused as the table is
-  pub refused-plot : {x : Refusal} → a ≡ TableAnswer.Refused x → boxPlotResult (BoxPlotAnswer.Refused x) p′ s′ ≡ boxPlotOf l w h p s
+module _ (t : TableCall) {a : SummaryAnswer} {p q : List ℕ} (run : summaryResult a p q ≡ summaryOf t) where
+  pub refused-plot : {x : Refusal} → a ≡ summary.Refused x → boxPlotResult (BoxPlotAnswer.Refused x) p q ≡ boxPlotOf t
   unfolding boxPlotOf plotBy
   refused-plot e = rw (← run, e)
 
-  module _ {f : TableFigures} (accepted : a ≡ TableAnswer.Accepted f) where
-    pub left-plottable : Plottable (take h p′) f h
-    left-plottable =
-        rw (ap (λ (t : TableResult). t .pmfList) run)
-        (accepted-plottable l w h p s f (accepted-call l w h p s f (ap (λ (t : TableResult). t .answer) (sym run) ∙ accepted)))
+  module _ {s : Summary} (accepted : a ≡ summary.Accepted s) where
+    pub left-plottable : Plottable s
+    left-plottable = summary-plottable (accepted-summary t s (ap (λ (r : SummaryResult). r .answer) (sym run) ∙ accepted))
 
-    -- the list of chances is long enough
-    pub left-room : h ≤ length p′
-    left-room = omega (arith, left-plottable .many, length-take h p′)
-
-    pub accepted-plot : {r : PlotRecord} → r ≡ recordOf (take h p′) f h → boxPlotResult (BoxPlotAnswer.Accepted r) p′ s′ ≡ boxPlotOf l w h p s
+    pub accepted-plot : {r : PlotRecord} → r ≡ recordOf s → boxPlotResult (BoxPlotAnswer.Accepted r) p q ≡ boxPlotOf t
     unfolding boxPlotOf plotBy
     accepted-plot e = rw (← run, accepted, e)
+
+-- an accepted record is that of an accepted summary
+pub record PlotOf (t : TableCall) (r : PlotRecord) : Type 0 where
+  pub short : Summary
+  pub answered : summaryOf t .answer ≡ summary.Accepted short
+  pub made : r ≡ recordOf short
+
+pub plot-of : (t : TableCall) (r : PlotRecord) → boxPlotOf t .answer ≡ BoxPlotAnswer.Accepted r → PlotOf t r
+unfolding boxPlotOf plotBy
+plot-of t r e = go (summaryOf t .answer) refl e
+  where
+    go : (a : SummaryAnswer) → summaryOf t .answer ≡ a → plotBy a ≡ BoxPlotAnswer.Accepted r → PlotOf t r
+    go (summary.Accepted s) q d = record { short = s; answered = q; made = cc }
+    go (summary.Refused x) q d = absurd (let z : _≡_ {A = ℕ} 0 1 = cc in omega arith)

@@ -5,7 +5,5 @@ pub mod Row
 pub mod Rowed
 pub mod RowLaws
 pub mod Percentile
+pub mod PercentileLaws
 pub mod Table
-pub mod TableLaws
-pub mod SameLaws
-pub mod Examples

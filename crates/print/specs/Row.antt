@@ -1,10 +1,10 @@
--- The table program's lines, but for the brackets. Definitions.
+-- TO BELIEVE: the table program's lines, but for the percentiles. Definitions.
 use Prim.Native.Nat.{ℕ, zero, suc, _+_}
 use mathlib.Core.List.{List, [], _∷_, _++_}
 use lib.ListN.{length, getD}
 use Rattle.text.specs.Decimal.{decimal, numberRoom}
 use Rattle.text.specs.Word.{comma, newline}
-use Rattle.bracket.specs.Bracket.{cdfOf}
+use Rattle.runlength.specs.Chain.{cdfOf}
 use Rattle.print.specs.Field.{field, fieldRoom}
 
 -- `standings`
@@ -41,7 +41,7 @@ headerLine = nWord ++ comma ++ chanceWord ++ comma ++ byWord ++ comma ++ leftWor
 
 -- the four numbers of a row
 unfoldable pub rowLine : ℕ → ℕ → ℕ → ℕ → List ℕ
-rowLine n probability by left = decimal n ++ field probability ++ field by ++ field left ++ newline
+rowLine n pmf cdf survival = decimal n ++ field pmf ++ field cdf ++ field survival ++ newline
 
 -- the rows 1 to h: the chance at n, the sum of the chances up to n, what is left at n
 unfoldable pub tableRows : ℕ → List ℕ → List ℕ → List ℕ

@@ -7,7 +7,7 @@ use native.Mathlib.Numerals.{add-one}
 use lib.ListN.{length, getD}
 use Rattle.text.specs.Wrote.{Wrote}
 use Rattle.text.specs.WroteLaws.{wrote-nothing, wrote-length, then}
-use Rattle.bracket.specs.Bracket.{cdfOf}
+use Rattle.runlength.specs.Chain.{cdfOf}
 use Rattle.bracket.specs.CdfLaws.{cdf-zero, cdf-more, cdf-upto}
 use Rattle.print.specs.Row.{rowLine, rowRoom, tableRows}
 use Rattle.print.specs.Rowed.{Rowed}
@@ -34,15 +34,15 @@ module _ {a : List ℕ} {at h : ℕ} {pmf survival : List ℕ} where
       }
 
   -- one chance more is at most the sum of all
-  pub rowed-sum : {b : List ℕ} {e by n : ℕ} → Rowed a at h pmf survival b e by n → n < h → by + getD pmf n 0 ≤ cdfOf pmf h
-  rowed-sum {b} {e} {by} {n} i l = omega (arith, cdf-more pmf n, cdf-upto pmf (n + 1) h (omega arith))
+  pub rowed-sum : {b : List ℕ} {e cdf n : ℕ} → Rowed a at h pmf survival b e cdf n → n < h → cdf + getD pmf n 0 ≤ cdfOf pmf h
+  rowed-sum {b} {e} {cdf} {n} i l = omega (arith, cdf-more pmf n, cdf-upto pmf (n + 1) h (omega arith))
 
-  pub rowed-more : {b c : List ℕ} {e by n r : ℕ} → Rowed a at h pmf survival b e by n → n < h
-      → Wrote b e c r (rowLine (n + 1) (getD pmf n 0) (by + getD pmf n 0) (getD survival n 0))
+  pub rowed-more : {b c : List ℕ} {e cdf n r : ℕ} → Rowed a at h pmf survival b e cdf n → n < h
+      → Wrote b e c r (rowLine (n + 1) (getD pmf n 0) (cdf + getD pmf n 0) (getD survival n 0))
       → r ≤ e + rowRoom
-      → Rowed a at h pmf survival c r (by + getD pmf n 0) (n + 1)
-  rowed-more {b} {c} {e} {by} {n} {r} i l w m =
-      let s : by + getD pmf n 0 ≡ cdfOf pmf (n + 1) = omega (arith, cdf-more pmf n) in
+      → Rowed a at h pmf survival c r (cdf + getD pmf n 0) (n + 1)
+  rowed-more {b} {c} {e} {cdf} {n} {r} i l w m =
+      let s : cdf + getD pmf n 0 ≡ cdfOf pmf (n + 1) = omega (arith, cdf-more pmf n) in
       record {
         upto = omega arith;
         sum = s;
@@ -51,5 +51,5 @@ module _ {a : List ℕ} {at h : ℕ} {pmf survival : List ℕ} where
         wrote = rw (rows-more n pmf survival) (then (i .wrote) (rw s at w));
       }
 
-  pub rowed-done : {b : List ℕ} {e by n : ℕ} → Rowed a at h pmf survival b e by n → h ≤ n → Wrote a at b e (tableRows h pmf survival)
-  rowed-done {b} {e} {by} {n} i l = let q : n ≡ h = omega arith in rw q at (i .wrote)
+  pub rowed-done : {b : List ℕ} {e cdf n : ℕ} → Rowed a at h pmf survival b e cdf n → h ≤ n → Wrote a at b e (tableRows h pmf survival)
+  rowed-done {b} {e} {cdf} {n} i l = let q : n ≡ h = omega arith in rw q at (i .wrote)

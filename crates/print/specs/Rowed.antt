@@ -4,13 +4,13 @@ use mathlib.Core.Path.{_≡_}
 use mathlib.Core.List.{List}
 use lib.ListN.{length}
 use Rattle.text.specs.Wrote.{Wrote}
-use Rattle.bracket.specs.Bracket.{cdfOf}
+use Rattle.runlength.specs.Chain.{cdfOf}
 use Rattle.print.specs.Row.{rowRoom, tableRows}
 
--- n rows of h stand in the buffer from `at` on, up to e, and `by` is the sum of their chances
-pub record Rowed (before : List ℕ) (at h : ℕ) (pmf survival after : List ℕ) (e by n : ℕ) : Type 0 where
+-- n rows of h stand in the buffer from `at` on, up to e, and `cdf` is the sum of their chances
+pub record Rowed (before : List ℕ) (at h : ℕ) (pmf survival after : List ℕ) (e cdf n : ℕ) : Type 0 where
   pub upto : n ≤ h
-  pub sum : by ≡ cdfOf pmf n
+  pub sum : cdf ≡ cdfOf pmf n
   pub size : length after ≡ length before
   pub room : e ≤ at + rowRoom * n
   pub wrote : Wrote before at after e (tableRows n pmf survival)

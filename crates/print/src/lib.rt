@@ -1,12 +1,12 @@
 // The lines that the two programs print, written into a lent buffer at an offset.
 // For the crates of this repository, which see to the room: hence each `requires`.
-mod brackets;
 mod field;
 mod monitor;
+mod percents;
 mod refused;
 mod rooms;
 mod rows;
-mod table;
+mod tables;
 
 pub use monitor::put_quiet;
 pub use monitor::put_signal;
@@ -17,4 +17,4 @@ pub use rooms::POINT_ROOM;
 pub use rooms::REFUSED_ROOM;
 pub use rooms::TABLE_ROOM;
 pub use rooms::TOTAL_ROOM;
-pub use table::put_table;
+pub use tables::put_table;

@@ -8,7 +8,7 @@ ghost use Prim.Native.Nat.{_+_, _*_, _≤_};
 ghost use lib.ListN.{length};
 ghost use Rattle.text.specs.Wrote.{Wrote};
 ghost use Rattle.runlength.specs.Scale.{unitsPerOne};
-ghost use Rattle.bracket.specs.Bracket.{cdfOf};
+ghost use Rattle.runlength.specs.Chain.{cdfOf};
 ghost use Rattle.print.specs.Row.{standingsLine, standingsRoom, headerLine, headerRoom, rowLine, rowRoom, tableRows};
 ghost use Rattle.print.specs.Row.{arlLine, arlRoom};
 
@@ -32,15 +32,15 @@ pub fn put_header(out: &mut [u8], at: usize) -> usize
 }
 
 // A row's four numbers.
-fn put_row(out: &mut [u8], at: usize, n: u64, probability: u64, by: u64, left: u64) -> usize
+fn put_row(out: &mut [u8], at: usize, n: u64, pmf: u64, cdf: u64, survival: u64) -> usize
     requires { ⌜ at + rowRoom ≤ length (now out) ⌝ }
-    ensures { λ r. ⌜ Wrote (now (out .entry)) at (now (out .exit)) r (rowLine n probability by left) ⌝ }
+    ensures { λ r. ⌜ Wrote (now (out .entry)) at (now (out .exit)) r (rowLine n pmf cdf survival) ⌝ }
     ensures { λ r. ⌜ r ≤ at + rowRoom ⌝ }
 {
     let a = put_number(out, at, n);
-    let b = put_field(out, a, probability);
-    let c = put_field(out, b, by);
-    let d = put_field(out, c, left);
+    let b = put_field(out, a, pmf);
+    let c = put_field(out, b, cdf);
+    let d = put_field(out, c, survival);
     put_byte(out, d, b'\n')
 }
 
@@ -53,11 +53,11 @@ pub fn put_rows(out: &mut [u8], at: usize, h: usize, pmf: &[u64], survival: &[u6
     ensures { λ r. ⌜ r ≤ at + rowRoom * h ⌝ }
 {
     let mut e = at;
-    let mut by: u64 = 0;
+    let mut cdf: u64 = 0;
     let mut i = 0;
     while i < h {
-        by += pmf[i];
-        e = put_row(out, e, (i + 1) as u64, pmf[i], by, survival[i]);
+        cdf += pmf[i];
+        e = put_row(out, e, (i + 1) as u64, pmf[i], cdf, survival[i]);
         i += 1;
     }
     e

@@ -4,8 +4,8 @@ use mathlib.Core.Path.{_≡_, sym, ap, _∙_}
 use mathlib.Core.List.{List, [], _∷_, _++_, append-assoc, append-nil}
 use native.Mathlib.Omega.{arith}
 use lib.ListN.{getD, drop}
-use Rattle.bracket.specs.declared.BracketAnswer.{BracketAnswer}
-use Rattle.bracket.specs.declared.BracketAnswer.the-variants.{Refused, At, Between, Open, Beyond}
+use Rattle.bracket.specs.declared.Place.{Place}
+use Rattle.bracket.specs.declared.Place.the-variants.{At, Between, Open, Beyond}
 use Rattle.text.specs.Decimal.{decimal}
 use Rattle.text.specs.Format.{fields}
 use Rattle.text.specs.Word.{newline as lf}
@@ -13,7 +13,7 @@ use Rattle.print.specs.Field.{field}
 use Rattle.print.specs.Refused.{refusedWord, refusedLine}
 use Rattle.print.specs.Monitor.{quietWord, signalWord, quietLine, signalLine}
 use Rattle.print.specs.Row.{standingsWord, arlWord, standingsLine, rowLine, arlLine}
-use Rattle.print.specs.Percentile.{qWord, placeFields, bracketLine}
+use Rattle.print.specs.Percentile.{qWord, placeFields, percentLine}
 use Rattle.program_claims.specs.NumberOnce.{comma, newline, number-once, behind-once, fields-once}
 
 -- a line of a word and fields
@@ -91,46 +91,33 @@ module _ {xs ys : List ℕ} where
 
 -- ---- where a percentile lies
 
--- no refusal
-abbrev pub Placed : BracketAnswer → Type 0
-Placed (Refused x) = ⊥
-Placed (At n) = Unit {0}
-Placed (Between low high) = Unit {0}
-Placed (Open low) = Unit {0}
-Placed (Beyond h) = Unit {0}
-
-place-once : (a b : BracketAnswer) → Placed a → (xs ys : List ℕ) → placeFields a ++ (10 ∷ xs) ≡ placeFields b ++ (10 ∷ ys) → (a ≡ b) × (xs ≡ ys)
+place-once : (a b : Place) → (xs ys : List ℕ) → placeFields a ++ (10 ∷ xs) ≡ placeFields b ++ (10 ∷ ys) → (a ≡ b) × (xs ≡ ys)
 unfolding placeFields field
-place-once (Refused x) b p xs ys e = absurd p
-place-once (At n) (Refused x) p xs ys e = let z : _≡_ {A = ℕ} 44 10 = ap (λ l. getD l 0 0) e in absurd (omega arith)
-place-once (At n) (At m) p xs ys e = let o = number-once n m newline newline (ap (drop 4) e) in (ap At (o .0), ap (drop 1) (o .1))
-place-once (At n) (Between low high) p xs ys e = let z : _≡_ {A = ℕ} 97 98 = ap (λ l. getD l 1 0) e in absurd (omega arith)
-place-once (At n) (Open low) p xs ys e = let z : _≡_ {A = ℕ} 97 111 = ap (λ l. getD l 1 0) e in absurd (omega arith)
-place-once (At n) (Beyond h) p xs ys e = let z : _≡_ {A = ℕ} 97 98 = ap (λ l. getD l 1 0) e in absurd (omega arith)
-place-once (Between low high) (Refused x) p xs ys e = let z : _≡_ {A = ℕ} 44 10 = ap (λ l. getD l 0 0) e in absurd (omega arith)
-place-once (Between low high) (At m) p xs ys e = let z : _≡_ {A = ℕ} 98 97 = ap (λ l. getD l 1 0) e in absurd (omega arith)
-place-once (Between low high) (Between low′ high′) p xs ys e =
+place-once (At n) (At m) xs ys e = let o = number-once n m newline newline (ap (drop 4) e) in (ap At (o .0), ap (drop 1) (o .1))
+place-once (At n) (Between low high) xs ys e = let z : _≡_ {A = ℕ} 97 98 = ap (λ l. getD l 1 0) e in absurd (omega arith)
+place-once (At n) (Open low) xs ys e = let z : _≡_ {A = ℕ} 97 111 = ap (λ l. getD l 1 0) e in absurd (omega arith)
+place-once (At n) (Beyond h) xs ys e = let z : _≡_ {A = ℕ} 97 98 = ap (λ l. getD l 1 0) e in absurd (omega arith)
+place-once (Between low high) (At m) xs ys e = let z : _≡_ {A = ℕ} 98 97 = ap (λ l. getD l 1 0) e in absurd (omega arith)
+place-once (Between low high) (Between low′ high′) xs ys e =
     let f = sym (append-assoc (decimal low) (field high) (10 ∷ xs)) ∙ ap (drop 9) e ∙ append-assoc (decimal low′) (field high′) (10 ∷ ys) in
     let o = number-once low low′ comma comma f in
     let r = number-once high high′ newline newline (ap (drop 1) (o .1)) in
     (cc (o .0, r .0), ap (drop 1) (r .1))
-place-once (Between low high) (Open low′) p xs ys e = let z : _≡_ {A = ℕ} 98 111 = ap (λ l. getD l 1 0) e in absurd (omega arith)
-place-once (Between low high) (Beyond h) p xs ys e = let z : _≡_ {A = ℕ} 116 121 = ap (λ l. getD l 3 0) e in absurd (omega arith)
-place-once (Open low) (Refused x) p xs ys e = let z : _≡_ {A = ℕ} 44 10 = ap (λ l. getD l 0 0) e in absurd (omega arith)
-place-once (Open low) (At m) p xs ys e = let z : _≡_ {A = ℕ} 111 97 = ap (λ l. getD l 1 0) e in absurd (omega arith)
-place-once (Open low) (Between low′ high′) p xs ys e = let z : _≡_ {A = ℕ} 111 98 = ap (λ l. getD l 1 0) e in absurd (omega arith)
-place-once (Open low) (Open low′) p xs ys e = let o = number-once low low′ newline newline (ap (drop 6) e) in (ap Open (o .0), ap (drop 1) (o .1))
-place-once (Open low) (Beyond h) p xs ys e = let z : _≡_ {A = ℕ} 111 98 = ap (λ l. getD l 1 0) e in absurd (omega arith)
-place-once (Beyond h) (Refused x) p xs ys e = let z : _≡_ {A = ℕ} 44 10 = ap (λ l. getD l 0 0) e in absurd (omega arith)
-place-once (Beyond h) (At m) p xs ys e = let z : _≡_ {A = ℕ} 98 97 = ap (λ l. getD l 1 0) e in absurd (omega arith)
-place-once (Beyond h) (Between low high) p xs ys e = let z : _≡_ {A = ℕ} 121 116 = ap (λ l. getD l 3 0) e in absurd (omega arith)
-place-once (Beyond h) (Open low) p xs ys e = let z : _≡_ {A = ℕ} 98 111 = ap (λ l. getD l 1 0) e in absurd (omega arith)
-place-once (Beyond h) (Beyond h′) p xs ys e = let o = number-once h h′ newline newline (ap (drop 8) e) in (ap Beyond (o .0), ap (drop 1) (o .1))
+place-once (Between low high) (Open low′) xs ys e = let z : _≡_ {A = ℕ} 98 111 = ap (λ l. getD l 1 0) e in absurd (omega arith)
+place-once (Between low high) (Beyond h) xs ys e = let z : _≡_ {A = ℕ} 116 121 = ap (λ l. getD l 3 0) e in absurd (omega arith)
+place-once (Open low) (At m) xs ys e = let z : _≡_ {A = ℕ} 111 97 = ap (λ l. getD l 1 0) e in absurd (omega arith)
+place-once (Open low) (Between low′ high′) xs ys e = let z : _≡_ {A = ℕ} 111 98 = ap (λ l. getD l 1 0) e in absurd (omega arith)
+place-once (Open low) (Open low′) xs ys e = let o = number-once low low′ newline newline (ap (drop 6) e) in (ap Open (o .0), ap (drop 1) (o .1))
+place-once (Open low) (Beyond h) xs ys e = let z : _≡_ {A = ℕ} 111 98 = ap (λ l. getD l 1 0) e in absurd (omega arith)
+place-once (Beyond h) (At m) xs ys e = let z : _≡_ {A = ℕ} 98 97 = ap (λ l. getD l 1 0) e in absurd (omega arith)
+place-once (Beyond h) (Between low high) xs ys e = let z : _≡_ {A = ℕ} 121 116 = ap (λ l. getD l 3 0) e in absurd (omega arith)
+place-once (Beyond h) (Open low) xs ys e = let z : _≡_ {A = ℕ} 98 111 = ap (λ l. getD l 1 0) e in absurd (omega arith)
+place-once (Beyond h) (Beyond h′) xs ys e = let o = number-once h h′ newline newline (ap (drop 8) e) in (ap Beyond (o .0), ap (drop 1) (o .1))
 
-bracket-shape : (p : ℕ) (a : BracketAnswer) (xs : List ℕ) → bracketLine p a ++ xs ≡ (qWord ++ field p) ++ (placeFields a ++ (10 ∷ xs))
-unfolding bracketLine
-bracket-shape p a xs = append-assoc (qWord ++ field p ++ placeFields a) lf xs ∙ append-assoc (qWord ++ field p) (placeFields a) (lf ++ xs)
+percent-shape : (p : ℕ) (a : Place) (xs : List ℕ) → percentLine p a ++ xs ≡ (qWord ++ field p) ++ (placeFields a ++ (10 ∷ xs))
+unfolding percentLine
+percent-shape p a xs = append-assoc (qWord ++ field p ++ placeFields a) lf xs ∙ append-assoc (qWord ++ field p) (placeFields a) (lf ++ xs)
 
-pub bracket-once : (p : ℕ) (a b : BracketAnswer) → Placed a → (xs ys : List ℕ) → bracketLine p a ++ xs ≡ bracketLine p b ++ ys → (a ≡ b) × (xs ≡ ys)
-bracket-once p a b i xs ys e =
-    place-once a b i xs ys (behind-once (qWord ++ field p) (sym (bracket-shape p a xs) ∙ e ∙ bracket-shape p b ys))
+pub percent-once : (p : ℕ) (a b : Place) → (xs ys : List ℕ) → percentLine p a ++ xs ≡ percentLine p b ++ ys → (a ≡ b) × (xs ≡ ys)
+percent-once p a b xs ys e =
+    place-once a b xs ys (behind-once (qWord ++ field p) (sym (percent-shape p a xs) ∙ e ∙ percent-shape p b ys))

@@ -9,25 +9,24 @@ use lib.IntN.{ℤ}
 use lib.ListN.{getD}
 use borrow.Author.Tests.{ltb-true, ltb-false, eq-eqb}
 use Rattle.rules.specs.declared.Rule.{Rule}
+use Rattle.rules.specs.Refusal.{badSigma, badState, badZone, badCount, shortList, badListLength, badStateCount, badPercent, badTotal, badLine, tooLong}
 use Rattle.monitor.specs.ReferenceChart.{Answer, refused, quiet, signal}
 use Rattle.monitor.specs.Calls.{EachAnswer}
-use Rattle.bracket.specs.declared.BracketAnswer.{BracketAnswer}
-use Rattle.bracket.specs.declared.BracketAnswer.the-variants.{Refused, At, Between, Open, Beyond}
 use Rattle.text.specs.declared.lines.ZoneWeights.{ZoneWeights}
 use Rattle.text.specs.Format.{fields, weightList}
 use Rattle.print.specs.Refused.{refusedLine}
 use Rattle.print.specs.Monitor.{quietLine, signalLine, totalLine}
 use Rattle.print.specs.Row.{standingsLine, headerLine, rowLine, arlLine}
-use Rattle.print.specs.Percentile.{bracketLine}
+use Rattle.print.specs.Percentile.{percentLine}
 use Rattle.report.specs.Printed.{printedBytes}
 use Rattle.report.specs.Points.{zonesOf, answerLines, pointsBytes}
 use Rattle.report.specs.TableReport.{tablePrinted}
 use Rattle.report.specs.MonitorReport.{monitorPrinted}
-use Rattle.claims.specs.Exact.{freeAnswers, ContainsPercentile}
+use Rattle.claims.specs.Exact.{freeAnswers}
 use Rattle.program_claims.specs.Texts.{TableTextIs, MonitorTextIs}
 use Rattle.program_claims.specs.NumberOnce.{comma, not-number, behind-once}
-use Rattle.program_claims.specs.LinesOnce.{row-shape, standings-once, arl-once, refused-once, quiet-once, signal-once, row-once, Placed, bracket-once}
-use Rattle.program_claims.specs.Programs.{OneOf, here, there, rows, fivePercents, EachPercent, Figures, figureLines, FiguresHold}
+use Rattle.program_claims.specs.LinesOnce.{row-shape, standings-once, arl-once, refused-once, quiet-once, signal-once, row-once, percent-once}
+use Rattle.program_claims.specs.Programs.{ruleNumbers, chartNumbers, OneOf, here, there, rows, fivePercents, EachPercent, Figures, figureLines, FiguresHold}
 use Rattle.program_claims.specs.Programs.{TableRefusal, TableProgram, refuses, prints, too-long, bad-line, bad-table}
 use Rattle.program_claims.specs.Programs.{Said, MonitorRefusal, MonitorProgram, bad-rules, bad-sigma}
 use Rattle.program_claims.specs.TableProgram.{table-program}
@@ -55,11 +54,11 @@ rows-from (suc h) f =
     rw (rows-from h f) (ap (λ n. rowsFrom h 1 f ++ f n) (sym e) ∙ sym (rows-snoc h 1 f))
 
 abbrev rowOf : Figures → ℕ → List ℕ
-rowOf f n = rowLine n (f .chance n) (f .by n) (f .left n)
+rowOf f n = rowLine n (f .pmf n) (f .cdf n) (f .survival n)
 
 -- the row n has the same numbers
 abbrev pub SameRow : Figures → Figures → ℕ → Type 0
-SameRow f g n = (f .chance n ≡ g .chance n) × (f .by n ≡ g .by n) × (f .left n ≡ g .left n)
+SameRow f g n = (f .pmf n ≡ g .pmf n) × (f .cdf n ≡ g .cdf n) × (f .survival n ≡ g .survival n)
 
 -- behind the rows comes an `a`, which begins no row
 rows-once : (f g : Figures) (k k′ i : ℕ) (xs ys : List ℕ) → rowsFrom k i (rowOf f) ++ (97 ∷ xs) ≡ rowsFrom k′ i (rowOf g) ++ (97 ∷ ys)
@@ -93,19 +92,19 @@ pub record SameFigures (h : ℕ) (f g : Figures) : Type 0 where
   pub row : (n : ℕ) → 1 ≤ n → n ≤ h → SameRow f g n
   pub whole : f .whole ≡ g .whole
   pub fraction : f .fraction ≡ g .fraction
-  pub shortfall : f .shortfall ≡ g .shortfall
-  pub brackets : EachPercent (λ p. f .bracket p ≡ g .bracket p)
+  pub errorBound : f .errorBound ≡ g .errorBound
+  pub places : EachPercent (λ p. f .place p ≡ g .place p)
 
 abbrev q : Figures → ℕ → List ℕ
-q f p = bracketLine p (f .bracket p)
+q f p = percentLine p (f .place p)
 
 abbrev arl : Figures → List ℕ
-arl f = arlLine (f .whole) (f .fraction) (f .shortfall)
+arl f = arlLine (f .whole) (f .fraction) (f .errorBound)
 
 -- The lines of a table determine how many rows there are and every number in them.
-pub table-once : (h h′ : ℕ) (f g : Figures) → EachPercent (λ p. Placed (f .bracket p)) → figureLines h f ≡ figureLines h′ g → (h ≡ h′) × SameFigures h f g
+pub table-once : (h h′ : ℕ) (f g : Figures) → figureLines h f ≡ figureLines h′ g → (h ≡ h′) × SameFigures h f g
 unfolding figureLines arlLine
-table-once h h′ f g i e =
+table-once h h′ f g e =
     let a = standings-once (f .states) (g .states)
     (sym (regroup (standingsLine (f .states)) headerLine (rows h (rowOf f)) (arl f) (fivePercents (q f))) ∙ e
     ∙ regroup (standingsLine (g .states)) headerLine (rows h′ (rowOf g)) (arl g) (fivePercents (q g))) in
@@ -115,46 +114,38 @@ table-once h h′ f g i e =
     let c = rows-once f g h h′ 1 _ _ b′ in
     let d = arl-once _ _ _ _ _ _ (c .2) in
     let five = sym (regroup (q f 5) (q f 25) (q f 50) (q f 75) (q f 95)) ∙ d .3 ∙ regroup (q g 5) (q g 25) (q g 50) (q g 75) (q g 95) in
-    let q5 = bracket-once 5 _ _ (i .0) _ _ five in
-    let q25 = bracket-once 25 _ _ (i .1) _ _ (q5 .1) in
-    let q50 = bracket-once 50 _ _ (i .2) _ _ (q25 .1) in
-    let q75 = bracket-once 75 _ _ (i .3) _ _ (q50 .1) in
-    let q95 = bracket-once 95 _ _ (i .4) [] [] (append-nil (q f 95) ∙ q75 .1 ∙ sym (append-nil (q g 95))) in (
+    let q5 = percent-once 5 _ _ _ _ five in
+    let q25 = percent-once 25 _ _ _ _ (q5 .1) in
+    let q50 = percent-once 50 _ _ _ _ (q25 .1) in
+    let q75 = percent-once 75 _ _ _ _ (q50 .1) in
+    let q95 = percent-once 95 _ _ [] [] (append-nil (q f 95) ∙ q75 .1 ∙ sym (append-nil (q g 95))) in (
       c .0,
       record {
         states = a .0;
         row = λ n p r. c .1 n p (omega arith);
         whole = d .0;
         fraction = d .1;
-        shortfall = d .2;
-        brackets = (q5 .0, q25 .0, q50 .0, q75 .0, q95 .0);
+        errorBound = d .2;
+        places = (q5 .0, q25 .0, q50 .0, q75 .0, q95 .0);
       },
     )
 
 -- ---- numbers with the same lines hold alike
 
-contains-placed : (test : ℕ → Bool) (a : BracketAnswer) → ContainsPercentile test a → Placed a
-unfolding ContainsPercentile
-contains-placed test (Refused x) c = c
-contains-placed test (At n) c = tt
-contains-placed test (Between low high) c = tt
-contains-placed test (Open low) c = tt
-contains-placed test (Beyond h) c = tt
-
 same-hold : {w : List ℕ} {rs : List Rule} {h : ℕ} {f g : Figures} → SameFigures h f g → FiguresHold w rs h f → FiguresHold w rs h g
 same-hold {w} {rs} {h} {f} {g} e t =
-    let q = e .brackets in
+    let q = e .places in
     let c = t .contains in
     record {
       states-are = sym (e .states) ∙ t .states-are;
-      chances-are = λ n i j. sym (e .row n i j .0) ∙ t .chances-are n i j;
-      by-is = λ n i j. sym (e .row n i j .1) ∙ t .by-is n i j;
-      left-is = λ n i j. sym (e .row n i j .2) ∙ t .left-is n i j;
+      pmf-is = λ n i j. sym (e .row n i j .0) ∙ t .pmf-is n i j;
+      cdf-is = λ n i j. sym (e .row n i j .1) ∙ t .cdf-is n i j;
+      survival-is = λ n i j. sym (e .row n i j .2) ∙ t .survival-is n i j;
       mean-is = rw (← e .whole, ← e .fraction) (t .mean-is);
       fraction-below = rw (← e .fraction) (t .fraction-below);
-      shortfall-is = rw (← e .shortfall, ← e .states) (t .shortfall-is);
-      by-bounds = λ n i j. rw (← (e .row n i j .1), ← e .states) (t .by-bounds n i j);
-      mean-bounds = rw (← e .whole, ← e .fraction, ← e .shortfall) (t .mean-bounds);
+      error-is = rw (← e .errorBound, ← e .states) (t .error-is);
+      cdf-bounds = λ n i j. rw (← (e .row n i j .1), ← e .states) (t .cdf-bounds n i j);
+      mean-bounds = rw (← e .whole, ← e .fraction, ← e .errorBound) (t .mean-bounds);
       contains = (rw (← (q .0)) (c .0), rw (← (q .1)) (c .1), rw (← (q .2)) (c .2), rw (← (q .3)) (c .3), rw (← (q .4)) (c .4));
     }
 
@@ -177,9 +168,8 @@ table-read-off s h g e = go (table-program s)
   where
     go : TableProgram s (printedBytes (tablePrinted s)) → (w : ZoneWeights) × (rs : List Rule) × TableTextIs s w rs h × FiguresHold (weightList w) rs h g
     go (refuses number place q r) = absurd (table-not-refused h g number place (sym e ∙ q))
-    go (prints w rs k f is ok q t) =
-        let c = t .contains in
-        let o = table-once k h f g (contains-placed _ _ (c .0), contains-placed _ _ (c .1), contains-placed _ _ (c .2), contains-placed _ _ (c .3), contains-placed _ _ (c .4)) (sym q ∙ e) in
+    go (prints w rs k f is m ok q t) =
+        let o = table-once k h f g (sym q ∙ e) in
         (w, rs, same-text (o .0) is, same-rows (o .0) (same-hold (o .1) t))
 
 -- ---- the monitor's lines
@@ -266,14 +256,15 @@ apart-never {n} ms a (there {n = m} {x} {ns} p) o = apart-never ms (go (elem m m
 
 -- the numbers that library calls alone give
 abbrev pub libraryNumbers : List ℕ
-libraryNumbers = 5 ∷ 6 ∷ 7 ∷ 11 ∷ 12 ∷ 13 ∷ 14 ∷ 15 ∷ []
+libraryNumbers =
+    badState .number ∷ badZone .number ∷ badCount .number ∷ shortList .number ∷ badListLength .number ∷ badStateCount .number ∷ badPercent .number ∷ badTotal .number ∷ []
 
 -- and those that a table text, or a monitor text, is refused by
 abbrev pub tableNumbers : List ℕ
-tableNumbers = 17 ∷ 16 ∷ 2 ∷ 3 ∷ 4 ∷ 8 ∷ 9 ∷ 10 ∷ []
+tableNumbers = tooLong .number ∷ badLine 0 .number ∷ chartNumbers
 
 abbrev pub monitorNumbers : List ℕ
-monitorNumbers = 17 ∷ 16 ∷ 1 ∷ 2 ∷ 3 ∷ 4 ∷ []
+monitorNumbers = tooLong .number ∷ badLine 0 .number ∷ badSigma .number ∷ ruleNumbers
 
 table-numbers : {s : List ℕ} {n p : ℕ} → TableRefusal s n p → OneOf tableNumbers n
 table-numbers (too-long l) = here refl
@@ -295,7 +286,7 @@ table-refusals s n p e = go (table-program s)
   where
     go : TableProgram s (printedBytes (tablePrinted s)) → OneOf tableNumbers n
     go (refuses number place q r) = rw (refused-number n p number place (sym e ∙ q)) (table-numbers r)
-    go (prints w rs h f is ok q t) = absurd (table-not-refused h f n p (sym q ∙ e))
+    go (prints w rs h f is m ok q t) = absurd (table-not-refused h f n p (sym q ∙ e))
 
 pub table-never : (s : List ℕ) (n p : ℕ) → OneOf libraryNumbers n → printedBytes (tablePrinted s) ≡ refusedLine n p → ⊥
 unfolding apart elem

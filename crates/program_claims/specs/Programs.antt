@@ -7,30 +7,42 @@ use lib.ListN.{length}
 use Rattle.rules.specs.declared.Rule.{Rule}
 use Rattle.rules.specs.declared.refusal.Refusal.{Refusal}
 use Rattle.rules.specs.declared.Checked.the-variants.{Accepted, Refused}
+use Rattle.rules.specs.Refusal.{badSigma, badRuleCount, badRuleBounds, badZoneSet, badWeights, badHorizon, tooManyStates, badLine, tooLong}
 use Rattle.rules.specs.Check.{checkOf}
-use Rattle.runlength.specs.Chain.{pmf, cdf, survival, restrictedMean}
 use Rattle.monitor.specs.Zone.{minSigma, maxSigma}
 use Rattle.monitor.specs.ReferenceChart.{Answer, refused, quiet, signal, chartAnswers}
 use Rattle.monitor.specs.Calls.{EachAnswer}
-use Rattle.table.specs.Table.{stateCount, tableChain, tableCheck}
-use Rattle.bracket.specs.declared.BracketAnswer.{BracketAnswer}
 use Rattle.text.specs.declared.lines.ZoneWeights.{ZoneWeights}
 use Rattle.text.specs.Format.{weightList}
 use Rattle.text.specs.Size.{maxText}
 use Rattle.parse.specs.Rules.{ruleListOf}
 use Rattle.print.specs.Refused.{refusedLine}
 use Rattle.print.specs.Row.{standingsLine, headerLine, rowLine, arlLine}
-use Rattle.print.specs.Percentile.{bracketLine}
+use Rattle.print.specs.Percentile.{percentLine}
 use Rattle.print.specs.Table.{maxRows}
 use Rattle.report.specs.TableReport.{reportHorizon}
 use Rattle.report.specs.Points.{zonesOf, pointsBytes}
-use Rattle.claims.specs.Exact.{freeAnswers, exactSum, exactMean, reached, ContainsPercentile}
+use Rattle.runlength.specs.Scale.{weightTotal, unitsPerOne}
+use Rattle.runlength.specs.Chain.{pmf, cdf, survival, restrictedMean}
+use Rattle.table.specs.TableChain.{stateCount, tableChain}
+use Rattle.table.specs.Table.{chartCheck}
+use Rattle.bracket.specs.declared.Place.{Place}
+use Rattle.bracket.specs.Contains.{PlaceContains}
+use Rattle.claims.specs.Exact.{freeAnswers, exactSum, exactMean, reached}
 use Rattle.program_claims.specs.Texts.{TableTextIs, TableStops, MonitorTextIs, MonitorStops, newlines}
 
 -- x is one of the numbers
 pub data OneOf : List ℕ → ℕ → Type 0 where
   here : {n x : ℕ} {ns : List ℕ} → x ≡ n → OneOf (n ∷ ns) x
   there : {n x : ℕ} {ns : List ℕ} → OneOf ns x → OneOf (n ∷ ns) x
+
+-- the numbers that a rule list is refused by, and a chart
+abbrev pub ruleNumbers : List ℕ
+ruleNumbers = badRuleCount .number ∷ badRuleBounds 0 .number ∷ badZoneSet 0 .number ∷ []
+
+abbrev pub chartNumbers : List ℕ
+chartNumbers =
+    badRuleCount .number ∷ badRuleBounds 0 .number ∷ badZoneSet 0 .number ∷ badWeights .number ∷ badHorizon .number ∷ tooManyStates .number ∷ []
 
 -- ---- the table program
 
@@ -49,51 +61,52 @@ EachPercent P = P 5 × P 25 × P 50 × P 75 × P 95
 -- the numbers that a table prints: N, the columns of the rows by n, the arl line's three, and where each percentile lies
 pub record Figures : Type 0 where
   pub states : ℕ
-  pub chance : ℕ → ℕ
-  pub by : ℕ → ℕ
-  pub left : ℕ → ℕ
+  pub pmf : ℕ → ℕ
+  pub cdf : ℕ → ℕ
+  pub survival : ℕ → ℕ
   pub whole : ℕ
   pub fraction : ℕ
-  pub shortfall : ℕ
-  pub bracket : ℕ → BracketAnswer
+  pub errorBound : ℕ
+  pub place : ℕ → Place
 
 -- all the lines of a table with h rows
 unfoldable pub figureLines : ℕ → Figures → List ℕ
 figureLines h f =
     standingsLine (f .states)
     ++ headerLine
-    ++ rows h (λ n. rowLine n (f .chance n) (f .by n) (f .left n))
-    ++ arlLine (f .whole) (f .fraction) (f .shortfall)
-    ++ fivePercents (λ p. bracketLine p (f .bracket p))
+    ++ rows h (λ n. rowLine n (f .pmf n) (f .cdf n) (f .survival n))
+    ++ arlLine (f .whole) (f .fraction) (f .errorBound)
+    ++ fivePercents (λ p. percentLine p (f .place p))
 
 -- The numbers are document 01's figures for these weights, rules and horizon to the last unit, and they bound the exact ones.
 pub record FiguresHold (w : List ℕ) (rs : List Rule) (h : ℕ) (f : Figures) : Type 0 where
   -- demand 2: the figures of the round-down steps
   pub states-are : f .states ≡ stateCount rs
-  pub chances-are : (n : ℕ) → 1 ≤ n → n ≤ h → f .chance n ≡ pmf (tableChain rs w) n
-  pub by-is : (n : ℕ) → 1 ≤ n → n ≤ h → f .by n ≡ cdf (tableChain rs w) n
-  pub left-is : (n : ℕ) → 1 ≤ n → n ≤ h → f .left n ≡ survival (tableChain rs w) n
-  pub mean-is : f .whole * 2 ^ 60 + f .fraction ≡ restrictedMean (tableChain rs w) h
-  pub fraction-below : f .fraction < 2 ^ 60
-  pub shortfall-is : f .shortfall ≡ f .states * h * (h - 1) / 2
+  pub pmf-is : (n : ℕ) → 1 ≤ n → n ≤ h → f .pmf n ≡ pmf (tableChain rs w) n
+  pub cdf-is : (n : ℕ) → 1 ≤ n → n ≤ h → f .cdf n ≡ cdf (tableChain rs w) n
+  pub survival-is : (n : ℕ) → 1 ≤ n → n ≤ h → f .survival n ≡ survival (tableChain rs w) n
+  pub mean-is : f .whole * unitsPerOne + f .fraction ≡ restrictedMean (tableChain rs w) h
+  pub fraction-below : f .fraction < unitsPerOne
+  pub error-is : f .errorBound ≡ f .states * h * (h - 1) / 2
   -- demand 3: the chance by n in the row n never exceeds the exact sum, and falls short of it by less than n × (N + 1) units
-  pub by-bounds : (n : ℕ) → 1 ≤ n → n ≤ h
-      → (f .by n * 2 ^ (30 * n) ≤ exactSum rs w n * 2 ^ 60) × (exactSum rs w n * 2 ^ 60 < (f .by n + n * (f .states + 1)) * 2 ^ (30 * n))
-  -- the exact mean is at or above the arl line's whole and fraction, by at most its shortfall
-  pub mean-bounds : ((f .whole * 2 ^ 60 + f .fraction) * 2 ^ (30 * h) ≤ exactMean rs w h * 2 ^ 60)
-      × (exactMean rs w h * 2 ^ 60 ≤ (f .whole * 2 ^ 60 + f .fraction + f .shortfall) * 2 ^ (30 * h))
+  pub cdf-bounds : (n : ℕ) → 1 ≤ n → n ≤ h
+      → (f .cdf n * weightTotal ^ n ≤ exactSum rs w n * unitsPerOne)
+      × (exactSum rs w n * unitsPerOne < (f .cdf n + n * (f .states + 1)) * weightTotal ^ n)
+  -- the exact mean is at or above the arl line's whole and fraction, by at most its error bound
+  pub mean-bounds : ((f .whole * unitsPerOne + f .fraction) * weightTotal ^ h ≤ exactMean rs w h * unitsPerOne)
+      × (exactMean rs w h * unitsPerOne ≤ (f .whole * unitsPerOne + f .fraction + f .errorBound) * weightTotal ^ h)
   -- each q line contains the true percentile
-  pub contains : EachPercent (λ p. ContainsPercentile (reached rs w p) (f .bracket p))
+  pub contains : EachPercent (λ p. PlaceContains (reached rs w p) (f .place p))
 
 -- why a table text is refused, with the number and the place: the text itself, 17 or 16; or its rules, weights and horizon, the first number
 -- of the table operation's that applies
 pub data TableRefusal (s : List ℕ) : ℕ → ℕ → Type 0 where
-  too-long : maxText < length s → TableRefusal s 17 0
+  too-long : maxText < length s → TableRefusal s (tooLong .number) 0
   bad-line : (front rest : List ℕ) (place : ℕ) → length s ≤ maxText → s ≡ front ++ rest → TableStops front rest → place ≡ 1 + newlines front
-      → TableRefusal s 16 place
+      → TableRefusal s (badLine place .number) place
   bad-table : (w : ZoneWeights) (rs : List Rule) (h : ℕ) (x : Refusal) → TableTextIs s w rs h
-      → tableCheck (ruleListOf rs) (weightList w) (reportHorizon h) maxRows maxRows ≡ Refused x
-      → OneOf (2 ∷ 3 ∷ 4 ∷ 8 ∷ 9 ∷ 10 ∷ []) (x .number) → TableRefusal s (x .number) (x .place)
+      → chartCheck (ruleListOf rs) (weightList w) (reportHorizon h) ≡ Refused x
+      → OneOf chartNumbers (x .number) → TableRefusal s (x .number) (x .place)
 
 -- what the table program prints for the text s
 pub data TableProgram (s : List ℕ) (printed : List ℕ) : Type 0 where
@@ -101,7 +114,7 @@ pub data TableProgram (s : List ℕ) (printed : List ℕ) : Type 0 where
   refuses : (number place : ℕ) → printed ≡ refusedLine number place → TableRefusal s number place → TableProgram s printed
   -- the lines of figures that hold of the weights, rules and horizon whose lines the text is
   prints : (w : ZoneWeights) (rs : List Rule) (h : ℕ) (f : Figures) → TableTextIs s w rs h
-      → tableCheck (ruleListOf rs) (weightList w) h maxRows maxRows ≡ Accepted
+      → h ≤ maxRows → chartCheck (ruleListOf rs) (weightList w) h ≡ Accepted
       → printed ≡ figureLines h f → FiguresHold (weightList w) rs h f → TableProgram s printed
 
 -- ---- the monitor program
@@ -120,13 +133,13 @@ pub record MonitorPrints (centre : ℤ) (sigma : ℕ) (rs : List Rule) (xs : Lis
   pub said : EachAnswer Said (freeAnswers rs [] (zonesOf centre sigma xs))
 
 pub data MonitorRefusal (s : List ℕ) : ℕ → ℕ → Type 0 where
-  too-long : maxText < length s → MonitorRefusal s 17 0
+  too-long : maxText < length s → MonitorRefusal s (tooLong .number) 0
   bad-line : (front rest : List ℕ) (place : ℕ) → length s ≤ maxText → s ≡ front ++ rest → MonitorStops front rest → place ≡ 1 + newlines front
-      → MonitorRefusal s 16 place
+      → MonitorRefusal s (badLine place .number) place
   bad-rules : (centre : ℤ) (sigma : ℕ) (rs : List Rule) (xs : List ℤ) (x : Refusal) → MonitorTextIs s centre sigma rs xs
-      → checkOf (ruleListOf rs) ≡ Refused x → OneOf (2 ∷ 3 ∷ 4 ∷ []) (x .number) → MonitorRefusal s (x .number) (x .place)
+      → checkOf (ruleListOf rs) ≡ Refused x → OneOf ruleNumbers (x .number) → MonitorRefusal s (x .number) (x .place)
   bad-sigma : (centre : ℤ) (sigma : ℕ) (rs : List Rule) (xs : List ℤ) → MonitorTextIs s centre sigma rs xs
-      → checkOf (ruleListOf rs) ≡ Accepted → ((minSigma ≤ sigma) × (sigma ≤ maxSigma) → ⊥) → MonitorRefusal s 1 0
+      → checkOf (ruleListOf rs) ≡ Accepted → ((minSigma ≤ sigma) × (sigma ≤ maxSigma) → ⊥) → MonitorRefusal s (badSigma .number) 0
 
 pub data MonitorProgram (s : List ℕ) (printed : List ℕ) : Type 0 where
   refuses : (number place : ℕ) → printed ≡ refusedLine number place → MonitorRefusal s number place → MonitorProgram s printed

@@ -6,8 +6,7 @@ use mathlib.Core.List.{List}
 use native.Mathlib.Omega.{arith}
 use native.Mathlib.Nat.{le-refl}
 use lib.Dec.{leb, eqb}
-use lib.ListN.{length, getD, length-replicate}
-use lib.Seq.{getD-take}
+use lib.ListN.{length, length-replicate}
 use borrow.Author.Tests.{leb-true}
 use Rattle.rules.specs.declared.Rule.{Rule}
 use Rattle.rules.specs.declared.RuleList.{RuleList}
@@ -15,17 +14,22 @@ use Rattle.rules.specs.declared.refusal.Refusal.{Refusal}
 use Rattle.rules.specs.declared.Checked.{Checked}
 use Rattle.rules.specs.declared.Checked.the-variants.{Accepted, Refused}
 use Rattle.rules.specs.Bounds.{maxRules}
+use Rattle.rules.specs.Refusal.{badLine, tooLong}
 use Rattle.rules.specs.Check.{activeRules, checkOf}
 use Rattle.rules.specs.CheckLaws.{accepted}
-use Rattle.runlength.specs.SumLaws.{sum-cong}
-use Rattle.runlength.specs.TabLaws.{getD-tab}
-use Rattle.runlength.specs.Chain.{pmf, cdf, survival, restrictedMean}
-use Rattle.runlength.specs.Scale.{unitsPerOne}
-use Rattle.table.specs.declared.TableFigures.{TableFigures}
+use Rattle.runlength.specs.Chain.{pmf, cdf, survival, errorBoundOf}
 use Rattle.table.specs.declared.TableAnswer.{TableAnswer}
-use Rattle.table.specs.Table.{tableCheck, tableOf}
-use Rattle.table.specs.AcceptedLaws.{accepted-call as table-call}
-use Rattle.bracket.specs.Bracket.{cdfOf, bracketOf}
+use Rattle.table.specs.Table.{TableCall, tableCall, rulesOf, chainOf, chartCheck, tableCheck, tableOf, pmfOf}
+use Rattle.table.specs.ChartLaws.{chart-accepted}
+use Rattle.table.specs.TableLaws.{room-check, refused-check}
+use Rattle.bracket.specs.Limits.{minPercent, maxPercent}
+use Rattle.bracket.specs.Contains.{PlaceContains}
+use Rattle.bracket.specs.Bracket.{percentilePlace}
+use Rattle.summary.specs.declared.Summary.{Summary}
+use Rattle.summary.specs.declared.SummaryAnswer.{SummaryAnswer}
+use Rattle.summary.specs.Summary.{summaryBy, summaryOf}
+use Rattle.summary.specs.Accepted.{AcceptedSummary}
+use Rattle.summary.specs.SummaryLaws.{accepted-summary, accepted-figures, refused-table}
 use Rattle.text.specs.declared.lines.ZoneWeights.{ZoneWeights}
 use Rattle.text.specs.Format.{weightList}
 use Rattle.parse.specs.declared.tables.TableText.{TableText}
@@ -36,108 +40,73 @@ use Rattle.print.specs.Row.{rowLine, tableRows}
 use Rattle.print.specs.Percentile.{percentLine, percentLines}
 use Rattle.print.specs.Table.{tableBytes, maxRows}
 use Rattle.report.specs.Printed.{refusedBy, printedBytes}
-use Rattle.report.specs.TableReport.{reportHorizon, tableLines, linesOf, blank, tablePrinted}
+use Rattle.report.specs.TableReport.{reportHorizon, reportCall, tableLines, linesOf, blank, tablePrinted}
 use Rattle.report.specs.TableReportLaws.{horizon-small}
-use Rattle.claims.specs.Exact.{reached, ContainsPercentile}
-use Rattle.claims.specs.TableCall.{chancesOf, chainOf, AcceptedCall}
-use Rattle.claims.specs.TableCallLaws.{accepted-call}
-use Rattle.claims.specs.BracketCallLaws.{chances-cdf}
-use Rattle.claims.specs.Demand3.{cdf-bounds, mean-bounds, bracket-contains-percentile}
+use Rattle.claims.specs.Exact.{reached}
+use Rattle.claims.specs.PercentileLaws.{call-contains}
+use Rattle.claims.specs.Demand3.{cdf-bounds, mean-bounds}
 use Rattle.program_claims.specs.Texts.{TableTextIs, TableReading, too-long, stopped, read}
 use Rattle.program_claims.specs.TableBytes.{table-reading, table-read, table-text-once, table-stopped, table-too-long as text-too-long}
 use Rattle.program_claims.specs.Programs.{rows, Figures, figureLines, FiguresHold, TableProgram, bad-table}
 use Rattle.program_claims.specs.Programs.{refuses as table-refuses, prints as table-prints, too-long as table-too-long, bad-line as table-bad-line}
-use Rattle.program_claims.specs.RefusalLaws.{table-number}
+use Rattle.program_claims.specs.RefusalLaws.{chart-number}
 
 -- ---- the lines of an accepted table are those of the chain's figures
 
-module _ (l : RuleList) (w : List ℕ) (h : ℕ) (p s : List ℕ) (f : TableFigures) (ok : tableOf l w h p s .answer ≡ TableAnswer.Accepted f) where
-  call : AcceptedCall l w h p s f
-  call = accepted-call l w h p s f ok
+module _ (t : TableCall) (s : Summary) (ok : summaryOf t .answer ≡ SummaryAnswer.Accepted s) where
+  call : AcceptedSummary t s
+  call = accepted-summary t s ok
 
-  chance-at : (k : ℕ) → k < h → getD (tableOf l w h p s .pmfList) k 0 ≡ pmf (chainOf l w) (suc k)
-  chance-at k i =
-      sym (getD-take h (tableOf l w h p s .pmfList) k 0 i) ∙ ap (λ x. getD x k 0) (call .chances-are) ∙ getD-tab h (λ k. pmf (chainOf l w) (suc k)) k i
-
-  left-after : (k : ℕ) → k < h → getD (tableOf l w h p s .survivalList) k 0 ≡ survival (chainOf l w) (suc k)
-  left-after k i =
-      sym (getD-take h (tableOf l w h p s .survivalList) k 0 i) ∙ ap (λ x. getD x k 0) (call .left-is) ∙ getD-tab h (λ k. survival (chainOf l w) (suc k)) k i
-
-  by-at : (n : ℕ) → n ≤ h → cdfOf (tableOf l w h p s .pmfList) n ≡ cdf (chainOf l w) n
-  unfolding cdfOf cdf
-  by-at n i = sum-cong n _ _ (λ k j. chance-at k (omega arith))
-
-  rows-are : (n : ℕ) → n ≤ h → tableRows n (tableOf l w h p s .pmfList) (tableOf l w h p s .survivalList)
-      ≡ rows n (λ n. rowLine n (pmf (chainOf l w) n) (cdf (chainOf l w) n) (survival (chainOf l w) n))
+  rows-are : (n : ℕ) → n ≤ t .horizon → tableRows n (tableOf t .pmfList) (tableOf t .survivalList)
+      ≡ rows n (λ n. rowLine n (pmf (chainOf t) n) (cdf (chainOf t) n) (survival (chainOf t) n))
   unfolding tableRows rows
   rows-are zero i = refl
   rows-are (suc n) i =
-      rw (rows-are n (omega arith), chance-at n (omega arith), left-after n (omega arith), by-at (suc n) i)
+      rw (
+        rows-are n (omega arith),
+        call .table .pmf-at n (omega arith),
+        call .table .survival-at n (omega arith),
+        call .table .list-cdf (suc n) i,
+      )
 
   figures : Figures
   figures =
       record {
-        states = f .states;
-        chance = pmf (chainOf l w);
-        by = cdf (chainOf l w);
-        left = survival (chainOf l w);
-        whole = f .«mean_whole»;
-        fraction = f .«mean_fraction»;
-        shortfall = f .states * h * (h - 1) / 2;
-        bracket = λ percent. bracketOf (chancesOf l w h p s) (f .states) percent;
+        states = s .figures .«state_count»;
+        pmf = pmf (chainOf t);
+        cdf = cdf (chainOf t);
+        survival = survival (chainOf t);
+        whole = s .figures .«mean_whole»;
+        fraction = s .figures .«mean_fraction»;
+        errorBound = errorBoundOf (s .figures .«state_count») (t .horizon);
+        place = λ percent. percentilePlace (pmfOf t) (s .figures .«state_count») percent;
       }
 
-  lines-are : tableBytes (f .states) h (tableOf l w h p s .pmfList) (tableOf l w h p s .survivalList) (f .«mean_whole») (f .«mean_fraction») ≡ figureLines h figures
-  unfolding figures tableBytes figureLines percentLines percentLine
-  lines-are = rw (rows-are h (le-refl h))
+  lines-are : tableBytes s (t .horizon) (tableOf t .pmfList) (tableOf t .survivalList) ≡ figureLines (t .horizon) figures
+  unfolding figures tableBytes figureLines percentLines summaryBy
+  lines-are = ap (λ x. tableBytes x (t .horizon) (tableOf t .pmfList) (tableOf t .survivalList)) (call .is) ∙ rw (rows-are (t .horizon) (le-refl (t .horizon)))
 
-  contains : (percent : ℕ) → 1 ≤ percent → percent ≤ 99 → ContainsPercentile (reached (activeRules l) w percent) (bracketOf (chancesOf l w h p s) (f .states) percent)
-  contains percent i j = bracket-contains-percentile l w h p s f ok percent i j
+  contains : (percent : ℕ) → PlaceContains (reached (rulesOf t) (t .weights) percent) (percentilePlace (pmfOf t) (s .figures .«state_count») percent)
+  contains percent = call-contains (call .table) percent
 
-  figures-hold : FiguresHold w (activeRules l) h figures
+  figures-hold : FiguresHold (t .weights) (rulesOf t) (t .horizon) figures
   unfolding figures
   figures-hold =
+      let answered = accepted-figures t s ok in
       record {
-        states-are = call .states-are;
-        chances-are = λ n i j. refl;
-        by-is = λ n i j. refl;
-        left-is = λ n i j. refl;
-        mean-is = call .mean-is;
-        fraction-below =
-            let e : f .«mean_fraction» ≡ restrictedMean (chainOf l w) h % unitsPerOne = ap (λ (x : TableFigures). x .«mean_fraction») (table-call l w h p s f ok .figures) in
-            omega (arith, e);
-        shortfall-is = refl;
-        by-bounds = λ n i j. rw (← chances-cdf l w h p s f call n j) (cdf-bounds l w h p s f ok n i j);
-        mean-bounds = mean-bounds l w h p s f ok;
-        contains = (contains 5 (omega arith) (omega arith), contains 25 (omega arith) (omega arith), contains 50 (omega arith) (omega arith), contains 75 (omega arith) (omega arith), contains 95 (omega arith) (omega arith));
+        states-are = call .table .count-is;
+        pmf-is = λ n i j. refl;
+        cdf-is = λ n i j. refl;
+        survival-is = λ n i j. refl;
+        mean-is = call .table .mean-is;
+        fraction-below = call .table .mean-part;
+        error-is = refl;
+        cdf-bounds = λ n i j. rw (← (call .table .pmf-cdf n j)) (cdf-bounds t (s .figures) answered n i j);
+        mean-bounds = mean-bounds t (s .figures) answered;
+        contains = (contains 5, contains 25, contains 50, contains 75, contains 95);
       }
 
--- ---- the table's check, from its answer
-
-check-refused : (l : RuleList) (w : List ℕ) (h : ℕ) (p s : List ℕ) (x : Refusal) → tableOf l w h p s .answer ≡ TableAnswer.Refused x
-    → tableCheck l w h (length p) (length s) ≡ Refused x
-unfolding tableOf
-check-refused l w h p s x e = go (tableCheck l w h (length p) (length s)) refl
-  where
-    go : (c : Checked) → tableCheck l w h (length p) (length s) ≡ c → tableCheck l w h (length p) (length s) ≡ Refused x
-    go Accepted q =
-        let r = rw q at e in
-        absurd (let z : _≡_ {A = ℕ} 0 1 = cc in omega arith)
-    go (Refused y) q =
-        let r = rw q at e in
-        let same : y ≡ x = cc in
-        q ∙ ap Refused same
-
-check-accepted : (l : RuleList) (w : List ℕ) (h : ℕ) (p s : List ℕ) (f : TableFigures) → tableOf l w h p s .answer ≡ TableAnswer.Accepted f
-    → tableCheck l w h (length p) (length s) ≡ Accepted
-unfolding tableOf
-check-accepted l w h p s f e = go (tableCheck l w h (length p) (length s)) refl
-  where
-    go : (c : Checked) → tableCheck l w h (length p) (length s) ≡ c → tableCheck l w h (length p) (length s) ≡ Accepted
-    go Accepted q = q
-    go (Refused y) q =
-        let r = rw q at e in
-        absurd (let z : _≡_ {A = ℕ} 0 1 = cc in omega arith)
+-- ---- the program's lists are long enough
 
 blank-length : length blank ≡ maxRows
 unfolding blank
@@ -164,29 +133,30 @@ same-figures p q t = rw (← p, ← q) t
 same-figures-for : {w w′ : List ℕ} {rs rs′ : List Rule} {h h′ : ℕ} {f : Figures} → w ≡ w′ → rs ≡ rs′ → h ≡ h′ → FiguresHold w rs h f → FiguresHold w′ rs′ h′ f
 same-figures-for o p q t = rw (← o, ← p, ← q) t
 
-same-check : (l : RuleList) (w : List ℕ) {h h′ m m′ : ℕ} → h ≡ h′ → m ≡ m′ → tableCheck l w h m m ≡ Accepted → tableCheck l w h′ m′ m′ ≡ Accepted
-same-check l w p q t = rw (← p, ← q) t
+same-check : (l : RuleList) (w : List ℕ) {h h′ : ℕ} → h ≡ h′ → chartCheck l w h ≡ Accepted → chartCheck l w h′ ≡ Accepted
+same-check l w p t = rw (← p) t
 
 module _ (s : List ℕ) (w : ZoneWeights) (rs : List Rule) (h : ℕ) (is : TableTextIs s w rs h) where
-  by-answer : (a : TableAnswer) → tableOf (ruleListOf rs) (weightList w) (reportHorizon h) blank blank .answer ≡ a
-      → TableProgram s (printedBytes (tableLines a (reportHorizon h) (tableOf (ruleListOf rs) (weightList w) (reportHorizon h) blank blank .pmfList)
-      (tableOf (ruleListOf rs) (weightList w) (reportHorizon h) blank blank .survivalList)))
-  unfolding printedBytes
-  by-answer (TableAnswer.Accepted f) e =
-      let c = accepted-call (ruleListOf rs) (weightList w) (reportHorizon h) blank blank f e in
-      let k = horizon-kept h (c .low) in
-      let l = ruleListOf rs in
-      let v = weightList w in
-      let H = reportHorizon h in
-      table-prints w rs h (figures l v H blank blank f e) is
-      (same-check l v (k .0) blank-length (check-accepted l v H blank blank f e))
-      (lines-are l v H blank blank f e ∙ ap (λ n. figureLines n (figures l v H blank blank f e)) (k .0))
-      (same-figures (active-rules rs (rules-few rs (c .rules))) (k .0) (figures-hold l v H blank blank f e))
-  by-answer (TableAnswer.Refused x) e =
-      let c : tableCheck (ruleListOf rs) (weightList w) (reportHorizon h) maxRows maxRows ≡ Refused x =
-      rw blank-length at (check-refused (ruleListOf rs) (weightList w) (reportHorizon h) blank blank x e) in
-      table-refuses (x .number) (x .place) refl
-      (bad-table w rs h x is c (table-number (ruleListOf rs) (weightList w) (reportHorizon h) maxRows maxRows x (horizon-small h) (horizon-small h) c))
+  abbrev t : TableCall
+  t = tableCall (ruleListOf rs) (weightList w) (reportHorizon h) blank blank
+
+  room : reportHorizon h ≤ length blank
+  room = rw blank-length (horizon-small h)
+
+  by-answer : (a : SummaryAnswer) → summaryOf t .answer ≡ a
+      → TableProgram s (printedBytes (tableLines a (reportHorizon h) (summaryOf t .pmfList) (summaryOf t .survivalList)))
+  unfolding printedBytes summaryOf
+  by-answer (SummaryAnswer.Accepted x) e =
+      let c = accepted-summary t x e .table .chart in
+      let k = horizon-kept h (c .some-horizon) in
+      table-prints w rs h (figures t x e) is (k .1)
+      (same-check (ruleListOf rs) (weightList w) (k .0) (chart-accepted c))
+      (lines-are t x e ∙ ap (λ n. figureLines n (figures t x e)) (k .0))
+      (same-figures (active-rules rs (rules-few rs (c .rules))) (k .0) (figures-hold t x e))
+  by-answer (SummaryAnswer.Refused x) e =
+      let c : chartCheck (ruleListOf rs) (weightList w) (reportHorizon h) ≡ Refused x =
+      sym (room-check t room room) ∙ refused-check t x (refused-table t x e) in
+      table-refuses (x .number) (x .place) refl (bad-table w rs h x is c (chart-number (ruleListOf rs) (weightList w) (reportHorizon h) x c))
 
 -- For every text: one refusal line, with the number and the place of a reason that holds of the text; or the text is the lines of weights w,
 -- rules rs and a horizon h, and what is printed is the lines of figures that bound the exact ones of w, rs and h as demand 3 says.
@@ -195,14 +165,14 @@ unfolding tablePrinted printedBytes refusedTable readTable
 table-program s = go (tableText s) (table-reading s)
   where
     go : (t : TableText) → TableReading s t → TableProgram s (printedBytes (cond (eqb (t .refusal .number) 0)
-        (linesOf (tableOf (t .list) (t .weights) (reportHorizon (t .horizon)) blank blank) (reportHorizon (t .horizon))) (refusedBy (t .refusal))))
-    go t (too-long l) = table-refuses 17 0 refl (table-too-long l)
-    go t (stopped front rest place l e st p) = table-refuses 16 place refl (table-bad-line front rest place l e st p)
-    go t (read w rs h i) = by-answer s w rs h i (tableOf (ruleListOf rs) (weightList w) (reportHorizon h) blank blank .answer) refl
+        (linesOf (summaryOf (reportCall t)) (reportHorizon (t .horizon))) (refusedBy (t .refusal))))
+    go t (too-long l) = table-refuses (tooLong .number) 0 refl (table-too-long l)
+    go t (stopped front rest place l e st p) = table-refuses (badLine place .number) place refl (table-bad-line front rest place l e st p)
+    go t (read w rs h i) = by-answer s w rs h i (summaryOf (tableCall (ruleListOf rs) (weightList w) (reportHorizon h) blank blank) .answer) refl
 
--- The other way round: a text that is the lines of weights, rules and a horizon which the table operation takes is not refused.
+-- The other way round: a text that is the lines of weights, rules and a horizon which make a chart is not refused.
 pub table-printed : {s : List ℕ} {w : ZoneWeights} {rs : List Rule} {h : ℕ} → TableTextIs s w rs h
-    → tableCheck (ruleListOf rs) (weightList w) (reportHorizon h) maxRows maxRows ≡ Accepted
+    → chartCheck (ruleListOf rs) (weightList w) (reportHorizon h) ≡ Accepted
     → (f : Figures) × (printedBytes (tablePrinted s) ≡ figureLines h f) × FiguresHold (weightList w) rs h f
 unfolding refusedTable readTable
 table-printed {s} {w} {rs} {h} is ok = go (table-program s)
@@ -211,10 +181,10 @@ table-printed {s} {w} {rs} {h} is ok = go (table-program s)
     clash e n = absurd (n (ap (λ (t : TableText). t .refusal .number) (sym e ∙ table-read is)))
 
     checked : {w′ : ZoneWeights} {rs′ : List Rule} {h′ : ℕ} {x : Refusal} → TableTextIs s w′ rs′ h′
-        → tableCheck (ruleListOf rs′) (weightList w′) (reportHorizon h′) maxRows maxRows ≡ Refused x → ⊥
+        → chartCheck (ruleListOf rs′) (weightList w′) (reportHorizon h′) ≡ Refused x → ⊥
     checked {w′} {rs′} {h′} {x} is′ e =
         let o = table-text-once is is′ in
-        let q : tableCheck (ruleListOf rs) (weightList w) (reportHorizon h) maxRows maxRows ≡ Refused x = rw (o .0, o .1, o .2) e in
+        let q : chartCheck (ruleListOf rs) (weightList w) (reportHorizon h) ≡ Refused x = rw (o .0, o .1, o .2) e in
         let z : _≡_ {A = ℕ} 0 1 = cc in
         omega arith
 
@@ -222,6 +192,6 @@ table-printed {s} {w} {rs} {h} is ok = go (table-program s)
     go (table-refuses n p e (table-too-long l)) = clash (text-too-long s l) (λ z. omega arith)
     go (table-refuses n p e (table-bad-line front rest place l q st r)) = clash (table-stopped l q st) (λ z. omega arith)
     go (table-refuses n p e (bad-table w′ rs′ h′ x is′ c o)) = absurd (checked is′ c)
-    go (table-prints w′ rs′ h′ f is′ c e t) =
+    go (table-prints w′ rs′ h′ f is′ m c e t) =
         let o = table-text-once is′ is in
         (f, e ∙ ap (λ n. figureLines n f) (o .2), same-figures-for (ap weightList (o .0)) (o .1) (o .2) t)

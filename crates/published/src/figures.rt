@@ -1,6 +1,7 @@
 // The figures of one chart that sources publish.
 use crate::decimal::Exact;
 use bracket::BracketAnswer;
+use bracket::Place;
 use rules::RuleList;
 use rules::ZONES;
 use runlength::MAX_HORIZON;
@@ -26,10 +27,13 @@ const NEGLIGIBLE: u64 = 1024;
 const LONGEST: usize = MAX_HORIZON as usize;
 
 fn exactly(answer: BracketAnswer) -> u64 {
-    match answer {
-        BracketAnswer::At(n) => n as u64,
-        _ => 0,
-    }
+    let BracketAnswer::Accepted(place) = answer else {
+        return 0;
+    };
+    let Place::At(n) = place else {
+        return 0;
+    };
+    n as u64
 }
 
 fn percentile(pmf: &[u64], states: u32, percent: u32) -> u64 {
@@ -68,9 +72,9 @@ fn of_table(f: TableFigures, first: u64, pmf: &[u64]) -> Figures {
             whole: 0,
             fraction: first,
         },
-        quartile_1: percentile(pmf, f.states, 25),
-        median: percentile(pmf, f.states, 50),
-        quartile_3: percentile(pmf, f.states, 75),
+        quartile_1: percentile(pmf, f.state_count, 25),
+        median: percentile(pmf, f.state_count, 50),
+        quartile_3: percentile(pmf, f.state_count, 75),
     }
 }
 

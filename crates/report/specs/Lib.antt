@@ -7,4 +7,3 @@ pub mod Points
 pub mod PointsLaws
 pub mod MonitorReport
 pub mod MonitorReportLaws
-mod Examples

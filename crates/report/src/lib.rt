@@ -8,7 +8,8 @@ pub use outputs::monitor_output;
 pub use outputs::table_output;
 use print::MAX_ROWS;
 use rules::Refusal;
-use table::TableAnswer;
+use summary::SummaryAnswer;
+use summary::table_summary;
 ghost use mathlib.Core.Path.{_≡_};
 ghost use Rattle.report.specs.Printed.{report, reportOf};
 ghost use Rattle.report.specs.TableReport.{tablePrinted, reportHorizon};
@@ -53,19 +54,11 @@ pub fn table_report(text: &[u8], out: &mut [u8; ReportAnswer::TABLE_SIZE]) -> Re
     let horizon = report_horizon(read.horizon);
     let mut pmf = [0u64; MAX_ROWS as usize];
     let mut survival = [0u64; MAX_ROWS as usize];
-    let answer = table::run_length_table(list, weights, horizon, &mut pmf, &mut survival);
+    let answer = table_summary(list, weights, horizon, &mut pmf, &mut survival);
     match answer {
-        TableAnswer::Refused(r) => ReportAnswer::Refused(r),
-        TableAnswer::Accepted(f) => {
-            let n = print::put_table(
-                out,
-                f.states,
-                horizon as usize,
-                &pmf,
-                &survival,
-                f.mean_whole,
-                f.mean_fraction,
-            );
+        SummaryAnswer::Refused(r) => ReportAnswer::Refused(r),
+        SummaryAnswer::Accepted(summary) => {
+            let n = print::put_table(out, summary, horizon as usize, &pmf, &survival);
             ReportAnswer::Written(n)
         }
     }

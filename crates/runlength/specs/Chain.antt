@@ -2,7 +2,8 @@
 use Prim.Native.Nat.{ℕ, zero, suc, _+_, _-_, _*_, _/_, _<_}
 use mathlib.Core.Path.{_≡_}
 use lib.Dec.{eqb}
-use Rattle.runlength.specs.Sum.{sum, only}
+use mathlib.Core.List.{List}
+use Rattle.runlength.specs.Sum.{at, sum, only}
 use Rattle.runlength.specs.Automaton.{Automaton, quiet, after}
 
 pub record Chain : Type 0 where
@@ -64,3 +65,7 @@ module _ (c : Chain) where
   -- document 01's allowed shortfall of the cut mean, in units
   unfoldable pub meanErrorBound : ℕ → ℕ
   meanErrorBound h = errorBoundOf (c .size) h
+
+-- document 01's by of a list of chances: the sum of the first n
+unfoldable pub cdfOf : List ℕ → ℕ → ℕ
+cdfOf pmf n = sum n (at pmf)

@@ -1,83 +1,121 @@
--- An accepted call of the table passed every check, and left what the definitions say.
-use mathlib.Core.Path.{_≡_, refl, ap}
-use mathlib.Core.Bool.{Bool, true, false}
+-- An accepted call of the table has all that `AcceptedTable` says. Laws.
+use mathlib.Core.Path.{_≡_, refl, sym, ap, _∙_}
 use mathlib.Core.List.{List}
-use Prim.Native.Nat.{ℕ, suc, _+_, _*_, _^_, _≤_}
+use Prim.Native.Nat.{ℕ, suc, _+_, _*_, _≤_, _<_}
+use native.Mathlib.Nat.{div-add-mod', le-refl}
 use native.Mathlib.Omega.{arith}
-use lib.Dec.{leb, eqb}
-use lib.ListN.{length, take, drop}
+use lib.Dec.{leb}
+use lib.ListN.{length, getD, take, drop, length-append, length-drop, List·getD-append}
 use lib.Seq.{take-at}
-use borrow.Author.Tests.{leb-true, eqb-true}
-use Rattle.rules.specs.declared.Rule.{Rule}
-use Rattle.rules.specs.declared.RuleList.{RuleList}
+use borrow.Author.Tests.{leb-true}
 use Rattle.rules.specs.declared.refusal.Refusal.{Refusal}
 use Rattle.rules.specs.declared.Checked.{Checked}
 use Rattle.rules.specs.declared.Checked.the-variants.{Accepted, Refused}
-use Rattle.rules.specs.Bounds.{zoneCount, maxStates}
-use Rattle.rules.specs.Check.{within, activeRules, checkOf}
-use Rattle.rules.specs.CheckLaws.{both, between}
-use Rattle.runlength.specs.Sum.{sum, tab, front, at}
-use Rattle.runlength.specs.TabLaws.{length-tab}
-use Rattle.runlength.specs.Chain.{cdf, survival}
-use Rattle.runlength.specs.ListedLaws.{listed-mass}
-use Rattle.states.specs.States.{moves}
-use Rattle.states.specs.Automata.{stateAutomaton}
-use Rattle.states.specs.StatesLaws.{states-some}
-use Rattle.rules.specs.Refusal.{badWeights, badHorizon, tooManyStates, shortList}
-use Rattle.runlength.specs.Scale.{maxHorizon, weightTotal, minHorizon}
+use Rattle.rules.specs.Refusal.{shortList}
+use Rattle.rules.specs.CheckLaws.{both}
+use Rattle.runlength.specs.Scale.{unitsPerOne}
+use Rattle.runlength.specs.Sum.{at, sum, tab, front}
+use Rattle.runlength.specs.SumLaws.{sum-cong, sum-le, sum-const}
+use Rattle.runlength.specs.TabLaws.{length-tab, getD-tab}
+use Rattle.runlength.specs.Chain.{Chain, Proper, pmf, cdf, survival, restrictedMean, cdfOf}
+use Rattle.runlength.specs.Conservation.{mass-conservation}
 use Rattle.table.specs.declared.TableFigures.{TableFigures}
 use Rattle.table.specs.declared.TableAnswer.{TableAnswer}
-use Rattle.table.specs.Table.{stateCount, tableChain, unless, tableCheck, TableResult, filled, tableOf}
-use Rattle.table.specs.Accepted.{Passed, AcceptedCall}
+use Rattle.table.specs.Table.{TableCall, rulesOf, chainOf, unless, chartCheck, tableCheck, TableResult, figuresOf, filled, tableOf, pmfOf, meanOf}
+use Rattle.table.specs.Accepted.{AcceptedChart, AcceptedTable}
+use Rattle.table.specs.TableChainLaws.{count-some, count-explored, chain-proper}
+use Rattle.table.specs.ChartLaws.{passed, accepted-chart}
 
--- there is a state, that of a chart just reset
-pub count-some : (rs : List Rule) → 1 ≤ stateCount rs
-unfolding stateCount
-count-some rs = states-some (stateAutomaton rs)
+-- ---- lists written from the front
 
--- the first h places of a list that was written from the front
-pub take-front : (h : ℕ) (f : ℕ → ℕ) (d : List ℕ) → take h (front h f d) ≡ tab h f
+-- the first h places
+take-front : (h : ℕ) (f : ℕ → ℕ) (d : List ℕ) → take h (front h f d) ≡ tab h f
 unfolding front
 take-front h f d = take-at (tab h f) (drop h d) h (length-tab h f)
 
--- by and left of the table are together at most probability one, and short of it by at most a unit for each state and point
-pub table-mass : (rs : List Rule) (w : List ℕ) → sum zoneCount (at w) ≡ weightTotal → (n : ℕ)
-    → (cdf (tableChain rs w) n + survival (tableChain rs w) n ≤ 2 ^ 60) × (2 ^ 60 ≤ cdf (tableChain rs w) n + survival (tableChain rs w) n + n * stateCount rs)
-table-mass rs w weights n = listed-mass zoneCount (stateCount rs) (moves (stateAutomaton rs)) (at w) (count-some rs) weights n
+front-length : (h : ℕ) (f : ℕ → ℕ) (d : List ℕ) → h ≤ length d → length (front h f d) ≡ length d
+unfolding front
+front-length h f d i = omega (arith, length-append (tab h f) (drop h d), length-tab h f, length-drop h d)
 
-passed : (t : Bool) (x : Refusal) → unless t x ≡ Accepted → t ≡ true
-passed true x e = refl
-passed false x e = let z : _≡_ {A = ℕ} 0 1 = cc in absurd (omega arith)
+front-at : (h : ℕ) (f : ℕ → ℕ) (d : List ℕ) (k : ℕ) → k < h → at (front h f d) k ≡ f k
+unfolding front
+front-at h f d k i = List·getD-append (tab h f) (drop h d) 0 k (omega (arith, length-tab h f)) ∙ getD-tab h f k i
 
-check-passed : (l : RuleList) (w : List ℕ) (h m n : ℕ) → tableCheck l w h m n ≡ Accepted → Passed l w h m n
-unfolding tableCheck
-check-passed l w h m n e =
-    let a = both (checkOf l) _ e in
-    let b = both (unless (eqb (sum zoneCount (at w)) weightTotal) badWeights) _ (a .1) in
-    let c = both (unless (within minHorizon maxHorizon h) badHorizon) _ (b .1) in
-    let d = both (unless (leb (stateCount (activeRules l)) maxStates) tooManyStates) _ (c .1) in
-    let f = both (unless (leb h m) shortList) _ (d .1) in
-    let g = between minHorizon maxHorizon h (passed _ badHorizon (c .0)) in
-    record {
-      rules = a .0;
-      weights = eqb-true _ _ (passed _ badWeights (b .0));
-      some-horizon = g .0;
-      most-horizon = g .1;
-      few-states = leb-true _ _ (passed _ tooManyStates (d .0));
-      pmf-room = leb-true _ _ (passed _ shortList (f .0));
-      survival-room = leb-true _ _ (passed _ shortList (f .1));
-    }
+-- ---- the chain's figures are in bounds
+
+-- the restricted mean is at most the horizon
+mean-most : (c : Chain) → Proper c → (h : ℕ) → restrictedMean c h ≤ h * c .whole
+unfolding restrictedMean
+mean-most c p h =
+    omega (arith, sum-le h (survival c) (λ k. c .whole) (λ k i. omega (arith, mass-conservation c p k .0)), sum-const h (c .whole))
+
+-- ---- the call
+
+-- a call that passed left the chain's figures
+module _ (t : TableCall) (chart : AcceptedChart (t .list) (t .weights) (t .horizon)) (pmf-room : t .horizon ≤ length (t .pmfBefore))
+    (survival-room : t .horizon ≤ length (t .survivalBefore)) (r : tableOf t ≡ filled (chainOf t) t) where
+  is-proper : Proper (chainOf t)
+  is-proper = chain-proper (rulesOf t) (t .weights) (chart .weights)
+
+  pmf-is : tableOf t .pmfList ≡ front (t .horizon) (λ k. pmf (chainOf t) (suc k)) (t .pmfBefore)
+  pmf-is = ap (λ (x : TableResult). x .pmfList) r
+
+  survival-is : tableOf t .survivalList ≡ front (t .horizon) (λ k. survival (chainOf t) (suc k)) (t .survivalBefore)
+  survival-is = ap (λ (x : TableResult). x .survivalList) r
+
+  written : pmfOf t ≡ tab (t .horizon) (λ k. pmf (chainOf t) (suc k))
+  written = ap (take (t .horizon)) pmf-is ∙ take-front (t .horizon) (λ k. pmf (chainOf t) (suc k)) (t .pmfBefore)
+
+  written-cdf : (n : ℕ) → n ≤ t .horizon → cdfOf (pmfOf t) n ≡ cdf (chainOf t) n
+  unfolding cdfOf cdf
+  written-cdf n i =
+      ap (λ l. sum n (at l)) written ∙ sum-cong n _ _ (λ k j. getD-tab (t .horizon) (λ k. pmf (chainOf t) (suc k)) k (omega arith))
+
+  chance-at : (k : ℕ) → k < t .horizon → at (tableOf t .pmfList) k ≡ pmf (chainOf t) (suc k)
+  chance-at k i = ap (λ l. at l k) pmf-is ∙ front-at (t .horizon) (λ k. pmf (chainOf t) (suc k)) (t .pmfBefore) k i
+
+  whole-cdf : (n : ℕ) → n ≤ t .horizon → cdfOf (tableOf t .pmfList) n ≡ cdf (chainOf t) n
+  unfolding cdfOf cdf
+  whole-cdf n i = sum-cong n _ _ (λ k j. chance-at k (omega arith))
+
+  left-figures : AcceptedTable t (figuresOf (chainOf t) (t .horizon))
+  left-figures = record {
+    chart = chart;
+    proper = is-proper;
+    count-is = refl;
+    some-states = count-some (rulesOf t);
+    few-states = omega (arith, chart .few, count-explored (rulesOf t));
+    survival-is = refl;
+    mean-is = div-add-mod' (restrictedMean (chainOf t) (t .horizon)) unitsPerOne;
+    mean-most = omega (arith, mean-most (chainOf t) is-proper (t .horizon), chart .most-horizon);
+    mean-part = omega arith;
+    pmf-list = pmf-is;
+    survival-list = survival-is;
+    pmf-room = omega (arith, ap length pmf-is, front-length (t .horizon) (λ k. pmf (chainOf t) (suc k)) (t .pmfBefore) pmf-room);
+    survival-room =
+        omega (arith, ap length survival-is, front-length (t .horizon) (λ k. survival (chainOf t) (suc k)) (t .survivalBefore) survival-room);
+    pmf-length = ap length written ∙ length-tab (t .horizon) (λ k. pmf (chainOf t) (suc k));
+    pmf-cdf = written-cdf;
+    list-cdf = whole-cdf;
+    pmf-at = chance-at;
+    survival-at = λ k i. ap (λ l. at l k) survival-is ∙ front-at (t .horizon) (λ k. survival (chainOf t) (suc k)) (t .survivalBefore) k i;
+    total = omega (arith, mass-conservation (chainOf t) is-proper (t .horizon) .0);
+  }
 
 -- an accepted answer is that of a call that passed
-pub accepted-call : (l : RuleList) (w : List ℕ) (h : ℕ) (p s : List ℕ) (f : TableFigures) → tableOf l w h p s .answer ≡ TableAnswer.Accepted f → AcceptedCall l w h p s f
-unfolding tableOf
-accepted-call l w h p s f e = go (tableCheck l w h (length p) (length s)) refl
+pub accepted-table : (t : TableCall) (f : TableFigures) → tableOf t .answer ≡ TableAnswer.Accepted f → AcceptedTable t f
+unfolding tableOf tableCheck
+accepted-table t f e = go (tableCheck t) refl
   where
-    go : (c : Checked) → tableCheck l w h (length p) (length s) ≡ c → AcceptedCall l w h p s f
+    go : (c : Checked) → tableCheck t ≡ c → AcceptedTable t f
     go Accepted q =
-        let r : tableOf l w h p s ≡ filled (stateCount (activeRules l)) (tableChain (activeRules l) w) h p s = rw q in
-        let a = ap (λ (t : TableResult). t .answer) r in
-        record { passed = check-passed l w h (length p) (length s) q; figures = cc; result = r }
+        let r : tableOf t ≡ filled (chainOf t) t = rw q in
+        let a = both (chartCheck (t .list) (t .weights) (t .horizon)) _ q in
+        let b = both (unless (leb (t .horizon) (length (t .pmfBefore))) shortList) _ (a .1) in
+        let same : f ≡ figuresOf (chainOf t) (t .horizon) = cc (ap (λ (x : TableResult). x .answer) r) in
+        rw same
+        (left-figures t (accepted-chart (t .list) (t .weights) (t .horizon) (a .0)) (leb-true _ _ (passed _ shortList (b .0)))
+        (leb-true _ _ (passed _ shortList (b .1))) r)
     go (Refused x) q =
-        let r : tableOf l w h p s .answer ≡ TableAnswer.Refused x = rw q in
+        let r : tableOf t .answer ≡ TableAnswer.Refused x = rw q in
         absurd (let z : _≡_ {A = ℕ} 0 1 = cc in omega arith)

@@ -1,6 +1,12 @@
--- The definitions and laws of the table operation.
+-- The table operation: definitions and laws.
+pub mod TableChain
+pub mod ByState
 pub mod Table
+pub mod ChartChecked
+pub mod Accepted
+pub mod TableChainLaws
+pub mod ChartLaws
+pub mod ChartCheckedLaws
 pub mod PrefixLaws
 pub mod TableLaws
-pub mod Accepted
 pub mod AcceptedLaws

@@ -1,129 +1,99 @@
--- What the table operation answers, case by case.
+-- What the table operation answers, case by case. Laws.
 use mathlib.Core.Path.{_≡_, refl, sym, ap, _∙_}
 use mathlib.Core.List.{List}
 use Prim.Native.Nat.{ℕ, suc, _*_, _/_, _%_, _≤_, _<_}
 use native.Mathlib.Omega.{arith}
-use lib.ListN.{length, getD, take}
-use lib.Seq.{getD-take}
-use borrow.Author.Tests.{le-leb, lt-leb, eq-eqb, ne-eqb}
-use Rattle.rules.specs.declared.RuleList.{RuleList}
+use lib.ListN.{length}
+use borrow.Author.Tests.{le-leb, lt-leb}
 use Rattle.rules.specs.declared.refusal.Refusal.{Refusal}
+use Rattle.rules.specs.declared.Checked.{Checked}
 use Rattle.rules.specs.declared.Checked.the-variants.{Accepted, Refused}
-use Rattle.rules.specs.Bounds.{zoneCount, maxStates}
-use Rattle.rules.specs.Check.{activeRules, checkOf}
-use Rattle.runlength.specs.Sum.{sum, front, at}
+use Rattle.rules.specs.Bounds.{zoneCount}
+use Rattle.rules.specs.Refusal.{shortList}
+use Rattle.rules.specs.Check.{orElse}
+use Rattle.runlength.specs.Scale.{unitsPerOne}
+use Rattle.runlength.specs.Sum.{at, front}
 use Rattle.runlength.specs.Chain.{pmf, survival, restrictedMean}
 use Rattle.runlength.specs.Listed.{listedChain}
-use Rattle.states.specs.States.{states, moves}
-use Rattle.states.specs.Automata.{stateAutomaton}
-use Rattle.states.specs.StatesLaws.{states-some}
-use Rattle.states.specs.Explore.{Explored}
-use Rattle.rules.specs.Refusal.{badWeights, badHorizon, tooManyStates, shortList}
-use Rattle.runlength.specs.Scale.{maxHorizon, weightTotal, unitsPerOne, minHorizon}
 use Rattle.rows.specs.Rows.{Ran}
 use Rattle.table.specs.declared.TableFigures.{TableFigures}
 use Rattle.table.specs.declared.TableAnswer.{TableAnswer}
-use Rattle.table.specs.Table.{stateCount, tableChain, tableCheck, TableResult, tableResult, figuresOf, filled, tableBy, tableOf}
+use Rattle.table.specs.TableChain.{stateCount, chainMoves, tableAutomaton}
+use Rattle.table.specs.Table.{TableCall, rulesOf, chainOf, chartCheck, tableCheck, TableResult, tableResult, filled, tableOf}
+use Rattle.table.specs.ChartChecked.{HoldsMoves}
 use Rattle.table.specs.PrefixLaws.{front-cong, pmf-same, survival-same, mean-same}
 
-module _ (l : RuleList) (w : List ℕ) (h : ℕ) (p s : List ℕ) where
+module _ (t : TableCall) where
   -- refused with both lists as they were
   abbrev RefusedBy : Refusal → Type 0
-  RefusedBy x = tableOf l w h p s ≡ tableResult (TableAnswer.Refused x) p s
+  RefusedBy x = tableResult (TableAnswer.Refused x) (t .pmfBefore) (t .survivalBefore) ≡ tableOf t
 
-  pub bad-rules : (x : Refusal) → checkOf l ≡ Refused x → RefusedBy x
+  pub chart-refused : {x : Refusal} → chartCheck (t .list) (t .weights) (t .horizon) ≡ Refused x → RefusedBy x
   unfolding tableOf tableCheck
-  bad-rules x e = rw e
+  chart-refused e = rw e
 
-  module _ (rules : checkOf l ≡ Accepted) where
-    pub bad-weights : (sum zoneCount (at w) ≡ weightTotal → ⊥) → RefusedBy badWeights
+  module _ (chart : chartCheck (t .list) (t .weights) (t .horizon) ≡ Accepted) where
+    pub short-pmf : length (t .pmfBefore) < t .horizon → RefusedBy shortList
     unfolding tableOf tableCheck
-    bad-weights n = rw (rules, ne-eqb (sum zoneCount (at w)) weightTotal n)
+    short-pmf n = rw (chart, lt-leb (t .horizon) (length (t .pmfBefore)) n)
 
-    module _ (weights : sum zoneCount (at w) ≡ weightTotal) where
-      pub no-horizon : h < minHorizon → RefusedBy badHorizon
+    module _ (pmf-room : t .horizon ≤ length (t .pmfBefore)) where
+      pub short-survival : length (t .survivalBefore) < t .horizon → RefusedBy shortList
       unfolding tableOf tableCheck
-      no-horizon n = rw (rules, eq-eqb (sum zoneCount (at w)) weightTotal weights, lt-leb minHorizon h n)
+      short-survival n =
+          rw (chart, le-leb (t .horizon) (length (t .pmfBefore)) pmf-room, lt-leb (t .horizon) (length (t .survivalBefore)) n)
 
-      module _ (low : minHorizon ≤ h) where
-        pub long-horizon : maxHorizon < h → RefusedBy badHorizon
-        unfolding tableOf tableCheck
-        long-horizon n = rw (rules, eq-eqb (sum zoneCount (at w)) weightTotal weights, le-leb minHorizon h low, lt-leb h maxHorizon n)
+      pub all-passed : t .horizon ≤ length (t .survivalBefore) → tableOf t ≡ filled (chainOf t) t
+      unfolding tableOf tableCheck
+      all-passed n =
+          rw (chart, le-leb (t .horizon) (length (t .pmfBefore)) pmf-room, le-leb (t .horizon) (length (t .survivalBefore)) n)
 
-        module _ (high : h ≤ maxHorizon) where
-          pub too-many-states : maxStates < stateCount (activeRules l) → RefusedBy tooManyStates
-          unfolding tableOf tableCheck
-          too-many-states n = rw (
-            rules,
-            eq-eqb (sum zoneCount (at w)) weightTotal weights,
-            le-leb minHorizon h low,
-            le-leb h maxHorizon high,
-            lt-leb (stateCount (activeRules l)) maxStates n,
-          )
-
-          module _ (few : stateCount (activeRules l) ≤ maxStates) where
-            pub short-pmf : length p < h → RefusedBy shortList
-            unfolding tableOf tableCheck
-            short-pmf n = rw (
-              rules,
-              eq-eqb (sum zoneCount (at w)) weightTotal weights,
-              le-leb minHorizon h low,
-              le-leb h maxHorizon high,
-              le-leb (stateCount (activeRules l)) maxStates few,
-              lt-leb h (length p) n,
-            )
-
-            module _ (pmf-room : h ≤ length p) where
-              pub short-survival : length s < h → RefusedBy shortList
-              unfolding tableOf tableCheck
-              short-survival n = rw (
-                rules,
-                eq-eqb (sum zoneCount (at w)) weightTotal weights,
-                le-leb minHorizon h low,
-                le-leb h maxHorizon high,
-                le-leb (stateCount (activeRules l)) maxStates few,
-                le-leb h (length p) pmf-room,
-                lt-leb h (length s) n,
-              )
-
-              pub accepted-table : h ≤ length s → tableOf l w h p s ≡ filled (stateCount (activeRules l)) (tableChain (activeRules l) w) h p s
-              unfolding tableOf tableCheck
-              accepted-table n = rw (
-                rules,
-                eq-eqb (sum zoneCount (at w)) weightTotal weights,
-                le-leb minHorizon h low,
-                le-leb h maxHorizon high,
-                le-leb (stateCount (activeRules l)) maxStates few,
-                le-leb h (length p) pmf-room,
-                le-leb h (length s) n,
-              )
-
--- exploring counts the states met
-pub explored-count : (l : RuleList) {found m : List ℕ} {n : ℕ} → Explored (stateAutomaton (activeRules l)) found m n → n ≡ stateCount (activeRules l)
-unfolding stateCount
-explored-count l e = e .count
-
-pub explored-some : (l : RuleList) {found m : List ℕ} {n : ℕ} → Explored (stateAutomaton (activeRules l)) found m n → 0 < n
-explored-some l e = rw (e .count) (states-some (stateAutomaton (activeRules l)))
-
--- what the rows leave on the explored moves is the table of the states met
-module _ (l : RuleList) (w : List ℕ) (h : ℕ) (p s p′ s′ found m : List ℕ) (n last whole fraction : ℕ)
-    (e : Explored (stateAutomaton (activeRules l)) found m n) (few : n ≤ maxStates) (r : Ran m n w h p s p′ s′ last whole fraction) where
-  moved : (k : ℕ) → k < zoneCount * n → getD m k 0 ≡ getD (moves (stateAutomaton (activeRules l))) k 0
-  moved k i = sym (ap (λ x. getD x k 0) (sym (e .found-moves few)) ∙ getD-take (zoneCount * n) m k 0 i)
-
+-- what the rows leave on a list that begins with the chain's moves is the chain's table
+module _ (t : TableCall) {m p′ s′ : List ℕ} {n last whole fraction : ℕ} (e : HoldsMoves (rulesOf t) n m)
+    (r : Ran m n (t .weights) (t .horizon) (t .pmfBefore) (t .survivalBefore) p′ s′ last whole fraction) where
   abbrev figures : TableFigures
-  figures = record { states = n; survival = last; «mean_whole» = whole; «mean_fraction» = fraction }
+  figures = record { «state_count» = n; survival = last; «mean_whole» = whole; «mean_fraction» = fraction }
 
-  abbrev met : List ℕ
-  met = moves (stateAutomaton (activeRules l))
-
-  pub rows-filled : tableResult (TableAnswer.Accepted figures) p′ s′ ≡ filled (stateCount (activeRules l)) (tableChain (activeRules l) w) h p s
+  pub rows-filled : tableResult (TableAnswer.Accepted figures) p′ s′ ≡ filled (chainOf t) t
+  unfolding tableAutomaton
   rows-filled =
-      let a : last ≡ survival (listedChain zoneCount n met (at w)) h = r .survival-last ∙ survival-same zoneCount n m met (at w) moved h in
-      let b : restrictedMean (listedChain zoneCount n m (at w)) h ≡ restrictedMean (listedChain zoneCount n met (at w)) h = mean-same zoneCount n m met (at w) moved h in
-      let c : whole ≡ restrictedMean (listedChain zoneCount n met (at w)) h / unitsPerOne = r .mean-whole ∙ ap (λ x. x / unitsPerOne) b in
-      let d : fraction ≡ restrictedMean (listedChain zoneCount n met (at w)) h % unitsPerOne = r .mean-fraction ∙ ap (λ x. x % unitsPerOne) b in
-      let f : p′ ≡ front h (λ k. pmf (listedChain zoneCount n met (at w)) (suc k)) p = r .pmf-list ∙ front-cong h _ _ p (pmf-same zoneCount n m met (at w) moved) in
-      let g : s′ ≡ front h (λ k. survival (listedChain zoneCount n met (at w)) (suc k)) s = r .survival-list ∙ front-cong h _ _ s (λ k. survival-same zoneCount n m met (at w) moved (suc k)) in
-      rw (a, c, d, f, g) (ap (λ x. filled x (listedChain zoneCount x met (at w)) h p s) (explored-count l e))
+      let h = t .horizon in
+      let met = chainMoves (rulesOf t) in
+      let w = at (t .weights) in
+      let c = listedChain zoneCount n met w in
+      let b : restrictedMean (listedChain zoneCount n m w) h ≡ restrictedMean c h = mean-same zoneCount n m met w (e .same) h in
+      let i : last ≡ survival c h = r .survival-last ∙ survival-same zoneCount n m met w (e .same) h in
+      let j : whole ≡ restrictedMean c h / unitsPerOne = r .mean-whole ∙ ap (λ x. x / unitsPerOne) b in
+      let k : fraction ≡ restrictedMean c h % unitsPerOne = r .mean-fraction ∙ ap (λ x. x % unitsPerOne) b in
+      let f : p′ ≡ front h (λ k. pmf c (suc k)) (t .pmfBefore) =
+      r .pmf-list ∙ front-cong h _ _ (t .pmfBefore) (pmf-same zoneCount n m met w (e .same)) in
+      let g : s′ ≡ front h (λ k. survival c (suc k)) (t .survivalBefore) =
+      r .survival-list ∙ front-cong h _ _ (t .survivalBefore) (λ k. survival-same zoneCount n m met w (e .same) (suc k)) in
+      rw (i, j, k, f, g) (ap (λ x. filled (listedChain zoneCount x met w) t) (e .count))
+
+-- ---- the answer says what the check was
+
+-- with lists that are long enough the check of a call is that of its chart
+pub room-check : (t : TableCall) → t .horizon ≤ length (t .pmfBefore) → t .horizon ≤ length (t .survivalBefore)
+    → tableCheck t ≡ chartCheck (t .list) (t .weights) (t .horizon)
+unfolding tableCheck
+room-check t p s =
+    rw (le-leb (t .horizon) (length (t .pmfBefore)) p, le-leb (t .horizon) (length (t .survivalBefore)) s)
+    (go (chartCheck (t .list) (t .weights) (t .horizon)))
+  where
+    go : (c : Checked) → orElse c (orElse Accepted Accepted) ≡ c
+    go Accepted = refl
+    go (Refused x) = refl
+
+pub refused-check : (t : TableCall) (x : Refusal) → tableOf t .answer ≡ TableAnswer.Refused x → tableCheck t ≡ Refused x
+unfolding tableOf
+refused-check t x e = go (tableCheck t) refl
+  where
+    go : (c : Checked) → tableCheck t ≡ c → tableCheck t ≡ Refused x
+    go Accepted q =
+        let r = rw q at e in
+        absurd (let z : _≡_ {A = ℕ} 0 1 = cc in omega arith)
+    go (Refused y) q =
+        let r = rw q at e in
+        let same : y ≡ x = cc in
+        q ∙ ap Refused same

@@ -1,28 +1,30 @@
 // Printing a bracket.
 use bracket::BracketAnswer;
+use bracket::Place;
+
+fn place(p: Place) {
+    match p {
+        Place::At(n) => {
+            show::number(b" at ", n as u64);
+        }
+        Place::Between { low, high } => {
+            show::number(b" between ", low as u64);
+            show::number(b" and ", high as u64);
+        }
+        Place::Open(n) => {
+            show::number(b" open from ", n as u64);
+        }
+        Place::Beyond(n) => {
+            show::number(b" beyond ", n as u64);
+        }
+    }
+    show::text(b"\n");
+}
 
 pub fn answer(a: BracketAnswer) {
     match a {
-        BracketAnswer::Refused(r) => {
-            show::refusal(r);
-        }
-        BracketAnswer::At(n) => {
-            show::number(b" at ", n as u64);
-            show::text(b"\n");
-        }
-        BracketAnswer::Between { low, high } => {
-            show::number(b" between ", low as u64);
-            show::number(b" and ", high as u64);
-            show::text(b"\n");
-        }
-        BracketAnswer::Open(n) => {
-            show::number(b" open from ", n as u64);
-            show::text(b"\n");
-        }
-        BracketAnswer::Beyond(n) => {
-            show::number(b" beyond ", n as u64);
-            show::text(b"\n");
-        }
+        BracketAnswer::Refused(r) => show::refusal(r),
+        BracketAnswer::Accepted(p) => place(p),
     }
 }
 

@@ -14,7 +14,7 @@ fn every_percent(pmf: &[u64], states: u32) {
 
 fn states_of(a: TableAnswer) -> u32 {
     match a {
-        TableAnswer::Accepted(f) => f.states,
+        TableAnswer::Accepted(f) => f.state_count,
         TableAnswer::Refused(_) => 0,
     }
 }

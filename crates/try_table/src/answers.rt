@@ -22,7 +22,7 @@ pub fn one(rule: Rule) -> RuleList {
 pub fn answer(a: TableAnswer) {
     match a {
         TableAnswer::Accepted(f) => {
-            show::number(b" states ", f.states as u64);
+            show::number(b" states ", f.state_count as u64);
             show::number(b" left ", f.survival);
             show::number(b" mean ", f.mean_whole);
             show::number(b" and ", f.mean_fraction);

@@ -9,7 +9,7 @@ fn count(list: RuleList) -> u32 {
     let mut pmf = [0u64; 1];
     let mut survival = [0u64; 1];
     match table::run_length_table(list, weights(), 1, &mut pmf, &mut survival) {
-        TableAnswer::Accepted(f) => f.states,
+        TableAnswer::Accepted(f) => f.state_count,
         TableAnswer::Refused(_) => 0,
     }
 }

@@ -1,21 +1,16 @@
--- `percentile_bracket` meets its contract: each refusal by the tests that lead to it, and the answer by the two searches.
-use mathlib.Core.Path.{_≡_, sym, ap₂, _∙_}
-use mathlib.Core.Bool.{Bool, not, false}
-use mathlib.Core.List.{List}
-use mathlib.Core.Option.{Option}
-use Prim.Native.Nat.{ℕ, _≤_}
+-- `percentile_bracket` meets its contract: each refusal by the tests that lead to it, and the place of a call that none applies to.
+use mathlib.Core.Path.{_≡_, sym, ap, _∙_}
 use native.Mathlib.Omega.{arith}
-use lib.Dec.{leb}
 use lib.ListN.{length}
 use borrow.Author.Tests.{leb-true, not-true, not-false}
-use borrow.Author.Needs.{needs}
 use Rattle.rules.specs.Bounds.{maxStates}
 use Rattle.runlength.specs.Scale.{minHorizon, maxHorizon, unitsPerOne}
+use Rattle.runlength.specs.Chain.{cdfOf}
+use Rattle.bracket.specs.declared.BracketAnswer.the-variants.{Accepted}
 use Rattle.bracket.specs.Limits.{minStates, minPercent, maxPercent}
-use Rattle.bracket.specs.Bracket.{cdfOf, bracketBy}
-use Rattle.bracket.specs.Accepted.{Accepted}
 use Rattle.bracket.specs.BracketLaws.{accepted-bracket}
 use Rattle.bracket.specs.RefusedLaws.{under-range, over-range, refused-length, refused-states, refused-percent, refused-total}
+use borrow.Author.Needs.{needs}
 use Rattle.bracket.proofs.percentile_bracket.Statement.{statement}
 use Rattle.bracket.proofs.percentile_bracket.Tie as tie
 
@@ -44,7 +39,8 @@ returns-3 : tie.Need-returns-3
 returns-3 c =
     let a = c .before .before .before .before .before .args in
     let pmf = a .pmf .now in
-    c .refused3 .ensures ∙ sym (refused-states pmf (a .state-count) (a .percent) (omega arith) (omega arith) (under-range minStates maxStates (a .state-count) (omega arith)))
+    c .refused3 .ensures
+    ∙ sym (refused-states pmf (a .state-count) (a .percent) (omega arith) (omega arith) (under-range minStates maxStates (a .state-count) (omega arith)))
 
 refused-requires-4 : tie.Need-refused-requires-4
 refused-requires-4 c κs = search needs
@@ -53,7 +49,8 @@ returns-4 : tie.Need-returns-4
 returns-4 c =
     let a = c .before .before .before .before .before .before .args in
     let pmf = a .pmf .now in
-    c .refused4 .ensures ∙ sym (refused-states pmf (a .state-count) (a .percent) (omega arith) (omega arith) (over-range minStates maxStates (a .state-count) (omega arith) (omega arith)))
+    c .refused4 .ensures
+    ∙ sym (refused-states pmf (a .state-count) (a .percent) (omega arith) (omega arith) (over-range minStates maxStates (a .state-count) (omega arith) (omega arith)))
 
 refused-requires-5 : tie.Need-refused-requires-5
 refused-requires-5 c κs = search needs
@@ -62,7 +59,9 @@ returns-5 : tie.Need-returns-5
 returns-5 c =
     let a = c .before .before .before .before .before .before .before .args in
     let pmf = a .pmf .now in
-    c .refused5 .ensures ∙ sym (refused-percent pmf (a .state-count) (a .percent) (omega arith) (omega arith) (omega arith) (omega arith) (under-range minPercent maxPercent (a .percent) (omega arith)))
+    c .refused5 .ensures
+    ∙ sym (refused-percent pmf (a .state-count) (a .percent) (omega arith) (omega arith) (omega arith) (omega arith)
+    (under-range minPercent maxPercent (a .percent) (omega arith)))
 
 refused-requires-6 : tie.Need-refused-requires-6
 refused-requires-6 c κs = search needs
@@ -71,7 +70,9 @@ returns-6 : tie.Need-returns-6
 returns-6 c =
     let a = c .before .before .before .before .before .before .before .before .args in
     let pmf = a .pmf .now in
-    c .refused6 .ensures ∙ sym (refused-percent pmf (a .state-count) (a .percent) (omega arith) (omega arith) (omega arith) (omega arith) (over-range minPercent maxPercent (a .percent) (omega arith) (omega arith)))
+    c .refused6 .ensures
+    ∙ sym (refused-percent pmf (a .state-count) (a .percent) (omega arith) (omega arith) (omega arith) (omega arith)
+    (over-range minPercent maxPercent (a .percent) (omega arith) (omega arith)))
 
 sum-fits-requires : tie.Need-sum-fits-requires
 sum-fits-requires c κs = search needs
@@ -83,38 +84,37 @@ returns-7 : tie.Need-returns-7
 returns-7 c =
     let a = c .before .before .before .before .before .before .before .before .before .before .args in
     let pmf = a .pmf .now in
-    c .refused7 .ensures ∙ sym (refused-total pmf (a .state-count) (a .percent) (omega arith) (omega arith) (omega arith) (omega arith) (omega arith) (omega arith) (sym (c .before .before .sum-fits .ensures) ∙ not-true (c .before .before .sum-fits .result) (c .before .if7 .taken)))
+    c .refused7 .ensures
+    ∙ sym (refused-total pmf (a .state-count) (a .percent) (omega arith) (omega arith) (omega arith) (omega arith) (omega arith) (omega arith)
+    (sym (c .before .before .sum-fits .ensures) ∙ not-true (c .before .before .sum-fits .result) (c .before .if7 .taken)))
 
--- the sum was found to fit
-fits : (pmf : List ℕ) (r : Bool) → r ≡ leb (cdfOf pmf (length pmf)) unitsPerOne → not r ≡ false → cdfOf pmf (length pmf) ≤ unitsPerOne
-fits pmf r e h = leb-true (cdfOf pmf (length pmf)) unitsPerOne (sym e ∙ not-false r h)
-
-lower-requires : tie.Need-lower-requires
-lower-requires c κs =
-    let summed = c .before in
-    let pmf = summed .before .before .before .before .before .before .before .before .args .pmf .now in
-    (record { short = omega arith; total = fits pmf (summed .sum-fits .result) (summed .sum-fits .ensures) (c .if7 .left) }, omega arith, omega arith)
-
-upper-requires : tie.Need-upper-requires
-upper-requires c κs =
-    let summed = c .before .before in
-    let pmf = summed .before .before .before .before .before .before .before .before .args .pmf .now in
-    (record { short = omega arith; total = fits pmf (summed .sum-fits .result) (summed .sum-fits .ensures) (c .before .if7 .left) }, omega arith)
-
-cast-placed : tie.Need-cast-placed
-cast-placed c = search needs
-
-placed-requires : tie.Need-placed-requires
-placed-requires c κs = search needs
+percentile-place-requires : tie.Need-percentile-place-requires
+percentile-place-requires c κs =
+    let pmf = c .before .before .before .before .before .before .before .before .before .args .pmf .now in
+    record {
+      not-empty = omega arith;
+      short = omega arith;
+      some-states = omega arith;
+      few-states = omega arith;
+      some-percent = omega arith;
+      part-percent = omega arith;
+      total = leb-true (cdfOf pmf (length pmf)) unitsPerOne (sym (c .before .sum-fits .ensures) ∙ not-false (c .before .sum-fits .result) (c .if7 .left));
+    }
 
 returns-8 : tie.Need-returns-8
 returns-8 c =
-    let summed = c .before .before .before .before in
-    let a = summed .before .before .before .before .before .before .before .before .args in
+    let a = c .before .before .before .before .before .before .before .before .before .before .args in
     let pmf = a .pmf .now in
-    let accepted : Accepted pmf (a .state-count) (a .percent) =
-    record { not-empty = omega arith; short = omega arith; some-states = omega arith; few-states = omega arith; some-percent = omega arith; part-percent = omega arith; total = fits pmf (summed .sum-fits .result) (summed .sum-fits .ensures) (c .before .before .before .if7 .left) } in
-    c .placed .ensures ∙ ap₂ (λ (low high : Option ℕ). bracketBy low high (length pmf)) (c .before .before .lower .ensures) (c .before .upper .ensures) ∙ sym (accepted-bracket pmf (a .state-count) (a .percent) accepted)
+    ap Accepted (c .percentile-place .ensures)
+    ∙ sym (accepted-bracket pmf (a .state-count) (a .percent) (record {
+      not-empty = omega arith;
+      short = omega arith;
+      some-states = omega arith;
+      few-states = omega arith;
+      some-percent = omega arith;
+      part-percent = omega arith;
+      total = leb-true (cdfOf pmf (length pmf)) unitsPerOne (sym (c .before .before .sum-fits .ensures) ∙ not-false (c .before .before .sum-fits .result) (c .before .if7 .left));
+    }))
 
 pub percentile-bracket-spec : {M : Type 1} → statement M
 percentile-bracket-spec =
@@ -135,8 +135,5 @@ percentile-bracket-spec =
     sum-fits-requires
     refused-requires-7
     returns-7
-    lower-requires
-    upper-requires
-    cast-placed
-    placed-requires
+    percentile-place-requires
     returns-8)

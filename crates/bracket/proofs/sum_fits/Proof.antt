@@ -4,17 +4,17 @@ use Prim.Native.Nat.{_+_, _-_, _≤_}
 use native.Mathlib.Omega.{arith}
 use lib.ListN.{length}
 use Rattle.runlength.specs.Scale.{unitsPerOne}
-use Rattle.bracket.specs.Bracket.{cdfOf}
+use Rattle.runlength.specs.Chain.{cdfOf}
 use Rattle.bracket.specs.CdfLaws.{cdf-zero, cdf-more, total-over, total-within}
 use borrow.Author.Needs.{needs}
 use Rattle.bracket.proofs.sum_fits.Statement.{statement}
 use Rattle.bracket.proofs.sum_fits.Tie as tie
 
 abbrev Inv-loop : tie.InvT-loop
-Inv-loop pmf left₀ i₀ left i = (i ≤ length pmf) × (cdfOf pmf i + left ≡ unitsPerOne)
+Inv-loop pmf rest₀ i₀ rest i = (i ≤ length pmf) × (cdfOf pmf i + rest ≡ unitsPerOne)
 
 abbrev μ-loop : tie.MeasureT-loop
-μ-loop pmf left₀ i₀ left i = length pmf - i
+μ-loop pmf rest₀ i₀ rest i = length pmf - i
 
 loop-holds : tie.Need-loop-holds Inv-loop μ-loop
 loop-holds c = (omega arith, omega (arith, cdf-zero (c .args .pmf .now)))
@@ -28,16 +28,16 @@ shared-slice-read-if1 c = search needs
 returns : tie.Need-returns Inv-loop μ-loop
 returns c =
     let at = c .before .before .before in
-    sym (total-over (at .before .args .pmf .now) (at .loop .left) (at .loop .i) (at .loop .inv .1) (omega arith) (omega arith))
+    sym (total-over (at .before .args .pmf .now) (at .loop .rest) (at .loop .i) (at .loop .inv .1) (omega arith) (omega arith))
 
-mul-left : tie.Need-mul-left Inv-loop μ-loop
-mul-left c = search needs
+mul-rest : tie.Need-mul-rest Inv-loop μ-loop
+mul-rest c = search needs
 
-shared-slice-read-left : tie.Need-shared-slice-read-left Inv-loop μ-loop
-shared-slice-read-left c = search needs
+shared-slice-read-rest : tie.Need-shared-slice-read-rest Inv-loop μ-loop
+shared-slice-read-rest c = search needs
 
-sub-left : tie.Need-sub-left Inv-loop μ-loop
-sub-left c = search needs
+sub-rest : tie.Need-sub-rest Inv-loop μ-loop
+sub-rest c = search needs
 
 add-i : tie.Need-add-i Inv-loop μ-loop
 add-i c = search needs
@@ -53,7 +53,7 @@ loop-again c =
 returns-2 : tie.Need-returns-2 Inv-loop μ-loop
 returns-2 c =
     let at = c .before in
-    sym (total-within (at .before .args .pmf .now) (at .loop .left) (at .loop .i) (at .loop .inv .1) (omega arith))
+    sym (total-within (at .before .args .pmf .now) (at .loop .rest) (at .loop .i) (at .loop .inv .1) (omega arith))
 
 pub sum-fits-spec : {M : Type 1} → statement M
 sum-fits-spec =
@@ -65,9 +65,9 @@ sum-fits-spec =
     mul-if1
     shared-slice-read-if1
     returns
-    mul-left
-    shared-slice-read-left
-    sub-left
+    mul-rest
+    shared-slice-read-rest
+    sub-rest
     add-i
     loop-less
     loop-again

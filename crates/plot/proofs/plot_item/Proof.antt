@@ -1,24 +1,20 @@
 -- `plot::plot_item` meets its contract: each arm is one case of the definition, and a cast is the nearest double.
 use mathlib.Core.Path.{sym, ap}
-use lib.Ieee.{ofInt, ofBits, round}
-use borrow.Author.Needs.{needs}
+use lib.Ieee.{ofInt}
 use Rattle.plot.specs.Double.{nearestTo}
 use Rattle.plot.specs.Item.{itemOf}
-use Rattle.plot.proofs.Tags.{refused-item}
+use borrow.Author.Needs.{needs}
 use Rattle.plot.proofs.plot_item.Statement.{statement}
 use Rattle.plot.proofs.plot_item.Tie as tie
 
-enum-told : tie.Need-enum-told
-enum-told c = search needs
-
-enum-known-answer : tie.Need-enum-known-answer
-enum-known-answer c = search needs
+enum-known-place : tie.Need-enum-known-place
+enum-known-place c = search needs
 
 int-to-float-t8 : tie.Need-int-to-float-t8
 int-to-float-t8 c = search needs
 
-enum-known-answer-2 : tie.Need-enum-known-answer-2
-enum-known-answer-2 c = search needs
+enum-known-place-2 : tie.Need-enum-known-place-2
+enum-known-place-2 c = search needs
 
 int-to-float-t9 : tie.Need-int-to-float-t9
 int-to-float-t9 c = search needs
@@ -26,54 +22,48 @@ int-to-float-t9 c = search needs
 int-to-float-t10 : tie.Need-int-to-float-t10
 int-to-float-t10 c = search needs
 
-enum-known-answer-3 : tie.Need-enum-known-answer-3
-enum-known-answer-3 c = search needs
+enum-known-place-3 : tie.Need-enum-known-place-3
+enum-known-place-3 c = search needs
 
 int-to-float-t11 : tie.Need-int-to-float-t11
 int-to-float-t11 c = search needs
 
-enum-known-answer-4 : tie.Need-enum-known-answer-4
-enum-known-answer-4 c = search needs
+enum-known-place-4 : tie.Need-enum-known-place-4
+enum-known-place-4 c = search needs
 
 int-to-float-t12 : tie.Need-int-to-float-t12
 int-to-float-t12 c = search needs
 
 returns : tie.Need-returns
-unfolding nearestTo ofBits round
-returns c = sym (refused-item (c .before .before .args .answer) (c .before .match .keys1))
+unfolding itemOf nearestTo ofInt
+returns c = sym (ap itemOf (c .before .before .place .given .1))
 
 returns-2 : tie.Need-returns-2
 unfolding itemOf nearestTo ofInt
-returns-2 c = sym (ap itemOf (c .before .before .answer .given .1))
+returns-2 c = sym (ap itemOf (c .before .before .before .place2 .given .1))
 
 returns-3 : tie.Need-returns-3
 unfolding itemOf nearestTo ofInt
-returns-3 c = sym (ap itemOf (c .before .before .before .answer2 .given .1))
+returns-3 c = sym (ap itemOf (c .before .before .place3 .given .1))
 
 returns-4 : tie.Need-returns-4
 unfolding itemOf nearestTo ofInt
-returns-4 c = sym (ap itemOf (c .before .before .answer3 .given .1))
-
-returns-5 : tie.Need-returns-5
-unfolding itemOf nearestTo ofInt
-returns-5 c = sym (ap itemOf (c .before .before .answer4 .given .1))
+returns-4 c = sym (ap itemOf (c .before .before .place4 .given .1))
 
 pub plot-item-spec : {M : Type 1} → statement M
 plot-item-spec =
     tie.close
     (tie.spec
-    enum-told
-    enum-known-answer
+    enum-known-place
     int-to-float-t8
-    enum-known-answer-2
+    enum-known-place-2
     int-to-float-t9
     int-to-float-t10
-    enum-known-answer-3
+    enum-known-place-3
     int-to-float-t11
-    enum-known-answer-4
+    enum-known-place-4
     int-to-float-t12
     returns
     returns-2
     returns-3
-    returns-4
-    returns-5)
+    returns-4)

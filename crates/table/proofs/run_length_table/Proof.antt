@@ -1,32 +1,62 @@
--- `table::run_length_table` meets its contract: the check's refusal, or the table of accepted rules.
-use mathlib.Core.Path.{_≡_, sym, ap, _∙_}
+-- `table::run_length_table` meets its contract: the chart's refusal, 11, or the rows of the chain's moves.
+use mathlib.Core.Path.{_≡_, sym, _∙_}
+use native.Mathlib.Omega.{arith}
+use Rattle.rules.specs.Check.{activeRules}
+use Rattle.table.specs.Table.{tableCall}
+use Rattle.table.specs.ChartCheckedLaws.{refused-chart, passed-chart, held-moves}
+use Rattle.table.specs.ChartLaws.{accepted-chart}
+use Rattle.table.specs.TableLaws.{chart-refused, short-pmf, short-survival, all-passed, rows-filled}
+use Rattle.table.specs.TableChainLaws.{count-some}
 use borrow.Author.Needs.{needs}
-use Rattle.rules.proofs.Tags.{is-accepted}
-use Rattle.table.specs.declared.TableAnswer.{TableAnswer}
-use Rattle.table.specs.Table.{tableResult}
-use Rattle.table.specs.TableLaws.{bad-rules}
 use Rattle.table.proofs.run_length_table.Statement.{statement}
 use Rattle.table.proofs.run_length_table.Tie as tie
 
-check-requires : tie.Need-check-requires
-check-requires c κs = search needs
+slice-aggregate-check-chart : tie.Need-slice-aggregate-check-chart
+slice-aggregate-check-chart c = search needs
+
+check-chart-requires : tie.Need-check-chart-requires
+check-chart-requires c κs = search needs
 
 enum-known-checked : tie.Need-enum-known-checked
 enum-known-checked c = search needs
 
-enum-told : tie.Need-enum-told
-enum-told c = search needs
-
-checked-table-requires : tie.Need-checked-table-requires
-checked-table-requires c κs =
-    let m = c .before .before .before in
-    sym (m .before .check .ensures) ∙ is-accepted (m .before .check .result) (m .match .keys2)
-
 returns : tie.Need-returns
-returns c =
-    let found = c .before .before .before in
-    let a = found .before .before .before .args in
-    sym (bad-rules (a .list) (a .weights) (a .horizon) (a .pmf .now) (a .survival .now) _ (sym (found .check .ensures) ∙ c .before .checked .given .1))
+returns c = let a = c .before .before .before .before .before .before .before .before .args in chart-refused (tableCall (a .list) (a .t2) (a .horizon) (a .pmf .now) (a .survival .now)) (refused-chart (a .list) (a .t2) (a .horizon) _ (c .before .checked .given .1) (c .before .before .before .before .check-chart .ensures))
+
+enum-known-checked-2 : tie.Need-enum-known-checked-2
+enum-known-checked-2 c = search needs
+
+returns-2 : tie.Need-returns-2
+returns-2 c = let a = c .before .before .before .before .before .before .before .before .before .args in short-pmf (tableCall (a .list) (a .t2) (a .horizon) (a .pmf .now) (a .survival .now)) (passed-chart (a .list) (a .t2) (a .horizon) _ (c .before .before .checked2 .given .1) (c .before .before .before .before .before .check-chart .ensures)) (omega arith)
+
+returns-3 : tie.Need-returns-3
+returns-3 c =
+    let a = c .before .before .before .before .before .before .before .before .before .before .args in
+    short-survival (tableCall (a .list) (a .t2) (a .horizon) (a .pmf .now) (a .survival .now)) (passed-chart (a .list) (a .t2) (a .horizon) _ (c .before .before .before .checked2 .given .1) (c .before .before .before .before .before .before .check-chart .ensures)) (omega arith) (omega arith)
+
+slice-aggregate-run-rows : tie.Need-slice-aggregate-run-rows
+slice-aggregate-run-rows c = search needs
+
+slice-aggregate-run-rows-2 : tie.Need-slice-aggregate-run-rows-2
+slice-aggregate-run-rows-2 c = search needs
+
+run-rows-requires : tie.Need-run-rows-requires
+run-rows-requires c κs =
+    let a = c .before .before .before .before .before .before .before .before .before .before .before .before .before .before .args in
+    let e = c .before .before .before .before .before .before .before .before .before .before .check-chart .ensures in
+    let chart = accepted-chart (a .list) (a .t2) (a .horizon) (passed-chart (a .list) (a .t2) (a .horizon) _ (c .before .before .before .before .before .before .before .checked2 .given .1) e) in
+    let m = held-moves (a .list) (a .t2) (a .horizon) _ (c .before .before .before .before .before .before .before .checked2 .given .1) e in
+    record {
+      some = omega (arith, m .count, count-some (activeRules (a .list)));
+      moves = record { many = m .room; most = m .few };
+      weights = record { zones = search needs; total = chart .weights };
+      rows = chart .most-horizon;
+      pmf-room = omega arith;
+      survival-room = omega arith;
+    }
+
+cast-t30 : tie.Need-cast-t30
+cast-t30 c = let a = c .before .before .before .before .before .before .before .before .before .before .before .before .before .before .before .before .before .before .before .args in omega (arith, held-moves (a .list) (a .t2) (a .horizon) _ (c .before .before .before .before .before .before .before .before .before .before .before .before .checked2 .given .1) (c .before .before .before .before .before .before .before .before .before .before .before .before .before .before .before .check-chart .ensures) .few)
 
 same-length : tie.Need-same-length
 same-length c = search needs
@@ -34,18 +64,29 @@ same-length c = search needs
 same-length-2 : tie.Need-same-length-2
 same-length-2 c = search needs
 
-returns-2 : tie.Need-returns-2
-returns-2 c = search needs
+returns-4 : tie.Need-returns-4
+returns-4 c =
+    let a = c .before .before .before .before .before .before .before .before .before .before .before .before .before .before .before .before .before .before .before .args in
+    let e = c .before .before .before .before .before .before .before .before .before .before .before .before .before .before .before .check-chart .ensures in
+    let t = (tableCall (a .list) (a .t2) (a .horizon) (a .pmf .now) (a .survival .now)) in
+    rows-filled t (held-moves (a .list) (a .t2) (a .horizon) _ (c .before .before .before .before .before .before .before .before .before .before .before .before .checked2 .given .1) e) (c .before .before .before .before .run-rows .ensures)
+    ∙ sym (all-passed t (passed-chart (a .list) (a .t2) (a .horizon) _ (c .before .before .before .before .before .before .before .before .before .before .before .before .checked2 .given .1) e) (omega arith) (omega arith))
 
 pub run-length-table-spec : {M : Type 1} → statement M
 run-length-table-spec =
     tie.close
     (tie.spec
-    check-requires
+    slice-aggregate-check-chart
+    check-chart-requires
     enum-known-checked
-    enum-told
-    checked-table-requires
     returns
+    enum-known-checked-2
+    returns-2
+    returns-3
+    slice-aggregate-run-rows
+    slice-aggregate-run-rows-2
+    run-rows-requires
+    cast-t30
     same-length
     same-length-2
-    returns-2)
+    returns-4)

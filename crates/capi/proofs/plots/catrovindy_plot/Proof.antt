@@ -1,5 +1,8 @@
--- `plots::catrovindy_plot` meets its contract: by the record's answer.
-use mathlib.Core.Path.{refl}
+-- `capi::catrovindy_plot` meets its contract: the record's refusal, or its numbers.
+use mathlib.Core.Path.{refl, ap, _∙_}
+use Rattle.rules.specs.declared.RuleList.{RuleList}
+use Rattle.table.specs.Table.{tableCall}
+use Rattle.plot.specs.Plot.{boxPlotOf}
 use Rattle.capi.specs.Codes.{slotList}
 use Rattle.capi.specs.PlotCallLaws.{plot-call}
 use borrow.Author.Needs.{needs}
@@ -35,11 +38,10 @@ same-length-2 c = search needs
 
 returns : tie.Need-returns
 returns c =
-    let t = c .before .before .before .before .before .before .before .before in
-    let l = t .before .before .before .before in
-    let a = l .before .before .before .before .args in
-    plot-call (slotList (a .slots .now) (a .count)) (l .list-of .result) (a .weights .now) (a .horizon) (a .pmf .now) (a .survival .now) (a .kinds .now) (a .values .now) _ _ _ _ _
-    (t .box-plot .result) _ (l .list-of .ensures) (t .box-plot .ensures) (c .before .before .answer .given .1) (c .code .ensures) refl refl
+    let a = c .before .before .before .before .before .before .before .before .before .before .before .before .before .before .before .before .args in
+    let called = c .before .before .before .before .before .before .before .before .box-plot .ensures ∙ ap (λ (l : RuleList). boxPlotOf (tableCall l (a .weights .now) (a .horizon) (a .pmf .now) (a .survival .now))) (c .before .before .before .before .before .before .before .before .before .before .before .before .list-of .ensures) in
+    plot-call (tableCall (slotList (a .slots .now) (a .count)) (a .weights .now) (a .horizon) (a .pmf .now) (a .survival .now)) (a .kinds .now) (a .values .now) _ _ _ _ _
+    (c .before .before .before .before .before .before .before .before .box-plot .result) _ called (c .before .before .answer .given .1) (c .code .ensures) refl refl
 
 same-length-3 : tie.Need-same-length-3
 same-length-3 c = search needs
@@ -49,12 +51,10 @@ same-length-4 c = search needs
 
 returns-2 : tie.Need-returns-2
 returns-2 c =
-    let k = c .before .before .before .before .before in
-    let t = k .before .before .before .before .before .before in
-    let l = t .before .before .before .before in
-    let a = l .before .before .before .before .args in
-    plot-call (slotList (a .slots .now) (a .count)) (l .list-of .result) (a .weights .now) (a .horizon) (a .pmf .now) (a .survival .now) (a .kinds .now) (a .values .now) _ _ _ _ _
-    (t .box-plot .result) _ (l .list-of .ensures) (t .box-plot .ensures) (k .answer2 .given .1) refl (c .before .before .write-kinds .ensures) (c .write-values .ensures)
+    let a = c .before .before .before .before .before .before .before .before .before .before .before .before .before .before .before .before .before .before .before .args in
+    let called = c .before .before .before .before .before .before .before .before .before .before .before .box-plot .ensures ∙ ap (λ (l : RuleList). boxPlotOf (tableCall l (a .weights .now) (a .horizon) (a .pmf .now) (a .survival .now))) (c .before .before .before .before .before .before .before .before .before .before .before .before .before .before .before .list-of .ensures) in
+    plot-call (tableCall (slotList (a .slots .now) (a .count)) (a .weights .now) (a .horizon) (a .pmf .now) (a .survival .now)) (a .kinds .now) (a .values .now) _ _ _ _ _
+    (c .before .before .before .before .before .before .before .before .before .before .before .box-plot .result) _ called (c .before .before .before .before .before .answer2 .given .1) refl (c .before .before .write-kinds .ensures) (c .write-values .ensures)
 
 pub catrovindy-plot-spec : {M : Type 1} → statement M
 catrovindy-plot-spec =

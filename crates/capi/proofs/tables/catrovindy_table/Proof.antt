@@ -1,7 +1,10 @@
--- `tables::catrovindy_table` meets its contract: by the table's answer.
-use borrow.Author.Needs.{needs}
+-- `capi::catrovindy_table` meets its contract: the table's refusal, or its figures.
+use mathlib.Core.Path.{ap, _∙_}
+use Rattle.rules.specs.declared.RuleList.{RuleList}
+use Rattle.table.specs.Table.{tableCall, tableOf}
 use Rattle.capi.specs.Codes.{slotList}
 use Rattle.capi.specs.TableCallLaws.{call-refused, call-accepted}
+use borrow.Author.Needs.{needs}
 use Rattle.capi.proofs.tables.catrovindy_table.Statement.{statement}
 use Rattle.capi.proofs.tables.catrovindy_table.Tie as tie
 
@@ -43,11 +46,9 @@ same-length-2 c = search needs
 
 returns : tie.Need-returns
 returns c =
-    let called = c .before .before .before .before .before .before .before .before in
-    let made = called .before .before .before .before in
-    let a = made .before .before .before .before .args in
-    call-refused (slotList (a .slots .now) (a .count)) (made .list-of .result) (a .weights .now) (a .horizon) (a .pmf .now) (a .survival .now) (a .figures .now) _ _ (called .run-length-table .result)
-    (made .list-of .ensures) (called .run-length-table .ensures) _ _ (c .before .before .answer .given .1) (c .code .ensures)
+    let a = c .before .before .before .before .before .before .before .before .before .before .before .before .before .before .before .before .args in
+    let called = c .before .before .before .before .before .before .before .before .run-length-table .ensures ∙ ap (λ (l : RuleList). tableOf (tableCall l (a .weights .now) (a .horizon) (a .pmf .now) (a .survival .now))) (c .before .before .before .before .before .before .before .before .before .before .before .before .list-of .ensures) in
+    call-refused (tableCall (slotList (a .slots .now) (a .count)) (a .weights .now) (a .horizon) (a .pmf .now) (a .survival .now)) (a .figures .now) called _ (c .before .before .answer .given .1) (c .code .ensures)
 
 same-length-3 : tie.Need-same-length-3
 same-length-3 c = search needs
@@ -57,11 +58,9 @@ same-length-4 c = search needs
 
 returns-2 : tie.Need-returns-2
 returns-2 c =
-    let called = c .before .before .before .before .before .before .before .before in
-    let made = called .before .before .before .before in
-    let a = made .before .before .before .before .args in
-    call-accepted (slotList (a .slots .now) (a .count)) (made .list-of .result) (a .weights .now) (a .horizon) (a .pmf .now) (a .survival .now) (a .figures .now) _ _ (called .run-length-table .result)
-    (made .list-of .ensures) (called .run-length-table .ensures) _ (c .before .before .answer2 .given .1)
+    let a = c .before .before .before .before .before .before .before .before .before .before .before .before .before .before .before .before .args in
+    let called = c .before .before .before .before .before .before .before .before .run-length-table .ensures ∙ ap (λ (l : RuleList). tableOf (tableCall l (a .weights .now) (a .horizon) (a .pmf .now) (a .survival .now))) (c .before .before .before .before .before .before .before .before .before .before .before .before .list-of .ensures) in
+    call-accepted (tableCall (slotList (a .slots .now) (a .count)) (a .weights .now) (a .horizon) (a .pmf .now) (a .survival .now)) (a .figures .now) called (c .before .before .answer2 .given .1)
 
 pub catrovindy-table-spec : {M : Type 1} → statement M
 catrovindy-table-spec =

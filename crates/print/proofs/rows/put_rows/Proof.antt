@@ -1,4 +1,4 @@
--- `print::put_rows` meets its contract. The invariant is `Rowed`: the rows up to i are written, and `by` is the sum of their chances.
+-- `print::put_rows` meets its contract. The invariant is `Rowed`: the rows up to i are written, and `cdf` is the sum of their chances.
 use borrow.Author.Needs.{needs}
 use Prim.Native.Nat.{_-_}
 use native.Mathlib.Omega.{arith}
@@ -8,22 +8,22 @@ use Rattle.print.proofs.rows.put_rows.Statement.{statement}
 use Rattle.print.proofs.rows.put_rows.Tie as tie
 
 abbrev Inv-loop : tie.InvT-loop
-Inv-loop out₀ at h pmf survival e₀ by₀ i₀ out e by i = Rowed out₀ at h pmf survival out e by i
+Inv-loop out₀ at h pmf survival e₀ cdf₀ i₀ out e cdf i = Rowed out₀ at h pmf survival out e cdf i
 
 abbrev μ-loop : tie.MeasureT-loop
-μ-loop out₀ at h pmf survival e₀ by₀ i₀ out e by i = h - i
+μ-loop out₀ at h pmf survival e₀ cdf₀ i₀ out e cdf i = h - i
 
 loop-holds : tie.Need-loop-holds Inv-loop μ-loop
 loop-holds c = rowed-start (omega arith)
 
-mul-by : tie.Need-mul-by Inv-loop μ-loop
-mul-by c = search needs
+mul-cdf : tie.Need-mul-cdf Inv-loop μ-loop
+mul-cdf c = search needs
 
-shared-slice-read-by : tie.Need-shared-slice-read-by Inv-loop μ-loop
-shared-slice-read-by c = search needs
+shared-slice-read-cdf : tie.Need-shared-slice-read-cdf Inv-loop μ-loop
+shared-slice-read-cdf c = search needs
 
-add-by : tie.Need-add-by Inv-loop μ-loop
-add-by c =
+add-cdf : tie.Need-add-cdf Inv-loop μ-loop
+add-cdf c =
     let l = c .before .before .loop in
     omega (arith, rowed-sum (l .inv) (omega arith))
 
@@ -67,9 +67,9 @@ put-rows-spec =
     Inv-loop
     μ-loop
     loop-holds
-    mul-by
-    shared-slice-read-by
-    add-by
+    mul-cdf
+    shared-slice-read-cdf
+    add-cdf
     add-put-row
     mul-put-row
     shared-slice-read-put-row

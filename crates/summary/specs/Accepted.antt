@@ -1,0 +1,27 @@
+-- What a summary is made of, and what an accepted one has. Definitions.
+use mathlib.Core.Path.{_≡_}
+use mathlib.Core.List.{List}
+use Prim.Native.Nat.{ℕ, _≤_}
+use Rattle.rules.specs.Bounds.{maxStates}
+use Rattle.runlength.specs.Scale.{minHorizon, maxHorizon}
+use Rattle.table.specs.Table.{TableCall, pmfOf}
+use Rattle.table.specs.Accepted.{AcceptedTable}
+use Rattle.bracket.specs.Limits.{minPercent, maxPercent}
+use Rattle.bracket.specs.Accepted.{Accepted}
+use Rattle.summary.specs.declared.Summary.{Summary}
+use Rattle.summary.specs.Summary.{summaryBy}
+use Rattle.summary.specs.ErrorBound.{maxErrorBound}
+
+-- chances whose every bracket is accepted, with so many states and this horizon
+pub record Summarizable (pmf : List ℕ) (states h : ℕ) : Type 0 where
+  pub few : states ≤ maxStates
+  pub some-horizon : minHorizon ≤ h
+  pub most-horizon : h ≤ maxHorizon
+  pub brackets : (p : ℕ) → minPercent ≤ p → p ≤ maxPercent → Accepted pmf states p
+
+-- the summary of an accepted table call, which no bracket of it is refused
+pub record AcceptedSummary (t : TableCall) (s : Summary) : Type 0 where
+  pub table : AcceptedTable t (s .figures)
+  pub is : s ≡ summaryBy (pmfOf t) (s .figures) (t .horizon)
+  pub brackets : (p : ℕ) → minPercent ≤ p → p ≤ maxPercent → Accepted (pmfOf t) (s .figures .«state_count») p
+  pub error-most : s .«error_bound» ≤ maxErrorBound
