@@ -1,7 +1,9 @@
 -- `table::run_length_table` meets its contract: the check's refusal, or the table of accepted rules.
-use mathlib.Core.Path.{_≡_, sym, ap, _∙_}
+use mathlib.Core.Path.{_≡_, refl, sym, ap, _∙_}
 use borrow.Author.Needs.{needs}
-use Rattle.rules.proofs.Tags.{is-accepted}
+use denote.Enum.Declared.{tagOf}
+use Rattle.rules.specs.CheckLaws.{is-accepted}
+use Rattle.rules.proofs.Checked.{the-type}
 use Rattle.table.specs.declared.TableAnswer.{TableAnswer}
 use Rattle.table.specs.Table.{tableResult}
 use Rattle.table.specs.TableLaws.{bad-rules}
@@ -20,7 +22,7 @@ enum-told c = search needs
 checked-table-requires : tie.Need-checked-table-requires
 checked-table-requires c κs =
     let m = c .before .before .before in
-    sym (m .before .check .ensures) ∙ is-accepted (m .before .check .result) (m .match .keys2)
+    is-accepted (tagOf the-type) (λ x. refl) (m .before .check .ensures) (m .match .keys2)
 
 returns : tie.Need-returns
 returns c =
