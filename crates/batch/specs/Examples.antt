@@ -6,27 +6,29 @@ use lib.IntN.{pos}
 use Rattle.rules.specs.Check.{checkRules, rulesFrom, checkOf}
 use Rattle.rules.specs.Mask.{maskOf}
 use Rattle.rules.specs.Ready.{westernElectric}
-use Rattle.rules.specs.Refusal.{badSigma, badCount}
+use Rattle.rules.specs.Refusal.{notRefused, badSigma, badCount}
 use Rattle.monitor.specs.Window.{hitsUpTo, live}
 use Rattle.monitor.specs.State.{validState, holding, nextState, moveOf}
 use Rattle.rules.specs.Bounds.{maxNumber}
 use Rattle.monitor.specs.Step.{monitorAt, freshMonitor, acceptedStep, stepOf}
 use Rattle.monitor.specs.Zone.{zoneOf}
-use Rattle.batch.specs.Batch.{noRefusal, noneTaken, readingStep, batchOf}
+use Rattle.monitor.specs.Reading.{readingStep}
+use Rattle.batch.specs.Batch.{noneTaken, batchOf}
 
 -- the third reading signals, by the rule at index 2; the fourth is not taken
-signal-at-third : batchOf westernElectric freshMonitor (pos 100) 10 (pos 121 ∷ pos 100 ∷ pos 121 ∷ pos 121 ∷ []) ≡ record { taken = 3; refusal = noRefusal; count = 3; mask = 4; next = freshMonitor }
+signal-at-third : batchOf westernElectric freshMonitor (pos 100) 10 (pos 121 ∷ pos 100 ∷ pos 121 ∷ pos 121 ∷ [])
+    ≡ record { taken = 3; refusal = notRefused; count = 3; mask = 4; next = freshMonitor }
 unfolding checkOf checkRules rulesFrom maskOf hitsUpTo live validState holding nextState moveOf acceptedStep stepOf zoneOf readingStep batchOf
 signal-at-third = refl
 
 -- two readings, both quiet: rules 2 and 4 remember the first, and rule 6 both
 all-taken : batchOf westernElectric freshMonitor (pos 100) 10 (pos 121 ∷ pos 100 ∷ [])
-    ≡ record { taken = 2; refusal = noRefusal; count = 2; mask = 0; next = monitorAt (2 * 256 ^ 2 + 2 * 256 ^ 4 + 3 * 256 ^ 6) 2 }
+    ≡ record { taken = 2; refusal = notRefused; count = 2; mask = 0; next = monitorAt (2 * 256 ^ 2 + 2 * 256 ^ 4 + 3 * 256 ^ 6) 2 }
 unfolding checkOf checkRules rulesFrom maskOf hitsUpTo live validState holding nextState moveOf acceptedStep stepOf zoneOf readingStep batchOf
 all-taken = refl
 
 -- no reading is never refused, whatever sigma is
-no-readings : batchOf westernElectric freshMonitor (pos 100) 0 [] ≡ noneTaken noRefusal freshMonitor
+no-readings : batchOf westernElectric freshMonitor (pos 100) 0 [] ≡ noneTaken notRefused freshMonitor
 unfolding batchOf
 no-readings = refl
 

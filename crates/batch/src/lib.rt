@@ -1,18 +1,13 @@
 // A batch of readings on one chart: what the rule list alone decides is decided once.
 use monitor::Monitor;
-use monitor::zone::ZoneAnswer;
+use monitor::zone::sigma_fits;
 use monitor::zone::zone_at;
 use rules::Checked;
 use rules::MAX_NUMBER;
 use rules::Refusal;
 use rules::RuleList;
 ghost use mathlib.Core.Path.{_≡_};
-ghost use mathlib.Core.Bool.{true};
-ghost use Prim.Native.Nat.{_≤_};
-ghost use Rattle.rules.specs.declared.Checked.the-variants.{Accepted};
-ghost use Rattle.rules.specs.Check.{activeRules, checkOf};
-ghost use Rattle.monitor.specs.State.{validState};
-ghost use Rattle.monitor.specs.Zone.{minSigma, maxSigma};
+ghost use Rattle.monitor.specs.Reading.{Readable};
 ghost use Rattle.batch.specs.Batch.{noneTaken, batchOf};
 
 // How far the readings were taken. It stopped at a refusal where the refusal's number is not 0: reading `taken` was refused, and not
@@ -54,7 +49,7 @@ fn take_accepted(
     sigma: u32,
     readings: &[i32],
 ) -> Batch
-    requires { ⌜ (checkOf list ≡ Accepted) × (minSigma ≤ sigma) × (sigma ≤ maxSigma) × (validState (monitor .count) (activeRules list) (monitor .state) ≡ true) ⌝ }
+    requires { ⌜ Readable list sigma monitor ⌝ }
     ensures { λ r. ⌜ r ≡ batchOf list monitor centre sigma (now (readings .entry)) ⌝ }
 {
     let len = readings.len();
@@ -125,10 +120,7 @@ pub fn take_readings(
     if let Checked::Refused(refusal) = checked {
         return none_taken(refusal, monitor);
     }
-    if sigma < ZoneAnswer::MIN_SIGMA {
-        return none_taken(BAD_SIGMA, monitor);
-    }
-    if sigma > ZoneAnswer::MAX_SIGMA {
+    if !sigma_fits(sigma) {
         return none_taken(BAD_SIGMA, monitor);
     }
     if !monitor.valid(list) {

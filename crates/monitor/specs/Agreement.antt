@@ -15,12 +15,12 @@ use Rattle.rules.specs.declared.Checked.the-variants.{Accepted}
 use Rattle.rules.specs.Bounds.{zoneCount, maxNumber}
 use Rattle.rules.specs.Check.{noRule, activeRules, checkOf}
 use Rattle.rules.specs.CheckLaws.{accepted}
-use Rattle.rules.specs.InBounds.{AllInBounds}
 use Rattle.rules.specs.Mask.{bit, maskOf}
 use Rattle.rules.specs.Refusal.{badState, badZone, badCount}
 use Rattle.monitor.specs.declared.Monitor.{Monitor}
-use Rattle.monitor.specs.Step.{freshMonitor, acceptedStep, stepOf}
-use Rattle.monitor.specs.ReferenceChart.{Answer, refused, quiet, signal, ruleHolds, rowMask, charted, chartBy, chartStep, chartAnswers}
+use Rattle.monitor.specs.Step.{freshMonitor}
+use Rattle.monitor.specs.StepLaws.{rules-accepted}
+use Rattle.monitor.specs.ReferenceChart.{Answer, refused, quiet, signal, ruleHolds, rowMask, charted, chartStep, chartAnswers}
 use Rattle.monitor.specs.Calls.{monitorAnswers, refusalNumber, EachAnswer}
 use Rattle.runlength.specs.Sequence.{AllBelow}
 use Rattle.monitor.specs.CallLaws.{monitorOfRow, fresh-of-row, one-call, chart-quiet, chart-signal}
@@ -29,17 +29,13 @@ use Rattle.monitor.specs.RowLaws.{empty-row-mask}
 -- ---- agreement
 
 module _ (l : RuleList) (a : checkOf l ≡ Accepted) where
-  pub rules-accepted : (m : Monitor) (z : ℕ) → stepOf l m z ≡ acceptedStep (activeRules l) m z
-  unfolding stepOf
-  rules-accepted m z = rw a
-
   agree-from : (zs row : List ℕ) → rowMask (activeRules l) row ≡ 0 → monitorAnswers l (monitorOfRow (activeRules l) row) zs ≡ chartAnswers (activeRules l) row zs
   unfolding monitorAnswers chartAnswers
   agree-from [] row e = refl
   agree-from (z ∷ zs) row e =
       let t = one-call (activeRules l) (accepted l a .2) row e z in
       rw (
-        rules-accepted (monitorOfRow (activeRules l) row) z,
+        rules-accepted l a (monitorOfRow (activeRules l) row) z,
         t .answer,
         t .after,
         agree-from zs (chartStep (activeRules l) row z .row) (t .quiet-row),

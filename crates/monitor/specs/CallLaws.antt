@@ -3,7 +3,7 @@ use mathlib.Core.Path.{_≡_, refl, sym, ap, _∙_}
 use mathlib.Core.Bool.{true}
 use mathlib.Core.Logic.{⊎-elim}
 use mathlib.Core.List.{List, [], _∷_}
-use Prim.Native.Nat.{ℕ, suc, _+_, _≤_, _<_}
+use Prim.Native.Nat.{ℕ, suc, _≤_, _<_}
 use native.Mathlib.Nat.{eq-zero-or-pos}
 use native.Mathlib.Numerals.{add-one}
 use native.Mathlib.Omega.{arith}
@@ -26,12 +26,12 @@ use Rattle.monitor.specs.RowLaws.{stateOfRow, valid-of-row, mask-of-row,
 -- ---- the chart's four cases
 
 module _ (rs : List Rule) (row : List ℕ) (z : ℕ) where
-  pub chart-bad-zone : zoneCount ≤ z → chartStep rs row z ≡ charted (refused (badZone .number)) row
+  chart-bad-zone : zoneCount ≤ z → chartStep rs row z ≡ charted (refused (badZone .number)) row
   unfolding chartStep
   chart-bad-zone h = rw (le-ltb z zoneCount h)
 
   module _ (zone : z < zoneCount) where
-    pub chart-bad-count : maxNumber ≤ length row → chartStep rs row z ≡ charted (refused (badCount .number)) row
+    chart-bad-count : maxNumber ≤ length row → chartStep rs row z ≡ charted (refused (badCount .number)) row
     unfolding chartStep
     chart-bad-count q = rw (lt-ltb z zoneCount zone, le-ltb (length row) maxNumber q)
 

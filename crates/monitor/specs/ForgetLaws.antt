@@ -9,7 +9,7 @@ use Rattle.monitor.specs.Window.{liveHit, live, hitsUpTo}
 use Rattle.monitor.specs.WindowLaws.{le-or-lt, cond-le, live-goes, hits-le, live-le}
 
 -- where k is out of reach nothing is kept
-pub out-of-reach : (k c n w : ℕ) → c + 1 + n < k → live k c n w ≡ 0
+out-of-reach : (k c n w : ℕ) → c + 1 + n < k → live k c n w ≡ 0
 unfolding live
 out-of-reach k c zero w h = refl
 out-of-reach k c (suc n) w h =

@@ -3,6 +3,7 @@ pub mod ZoneLaws
 pub mod Window
 pub mod WindowLaws
 pub mod State
+pub mod Settled
 pub mod ForgetLaws
 pub mod ValidLaws
 pub mod StateLaws
@@ -16,3 +17,5 @@ pub mod RowLaws
 pub mod CallLaws
 pub mod Agreement
 pub mod TakeLaws
+pub mod Reading
+pub mod ReadingLaws

@@ -8,8 +8,8 @@ use native.Mathlib.Nat.{lt-of-le-of-lt, lt-of-lt-of-le, pow-succ', div-eq-of-lt}
 use native.Mathlib.Omega.{arith}
 use lib.ListN.{length, take}
 use lib.Pow.{pow-mono}
-use lib.Dec.{leb, eqb}
-use borrow.Author.Tests.{le-leb, lt-leb, leb-false, eq-eqb, ne-eqb}
+use lib.Dec.{leb}
+use borrow.Author.Tests.{lt-leb, leb-false, eq-eqb}
 use Rattle.rules.specs.declared.Rule.{Rule}
 use Rattle.rules.specs.InBounds.{InBounds, AllInBounds}
 use Rattle.rules.specs.Mask.{bit, maskOf}

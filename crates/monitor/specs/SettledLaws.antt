@@ -19,16 +19,12 @@ use Rattle.monitor.specs.Window.{maxAge, windowBase, hitsUpTo, liveHit, 
 use Rattle.monitor.specs.WindowLaws.{cond-le}
 use Rattle.monitor.specs.ForgetLaws.{live-first, live-zero}
 use Rattle.monitor.specs.State.{validState}
-use Rattle.monitor.specs.StateLaws.{windowsFrom, windows-on, valid-cons}
-
--- a window with fewer than k hits, all of them remembered
-pub record Settled (r : Rule) (w : ℕ) : Type 0 where
-  pub few : hitsUpTo maxAge w < r .k
-  pub kept : remembered r w ≡ w
+use Rattle.monitor.specs.StateLaws.{windows-on, valid-cons}
+use Rattle.monitor.specs.Settled.{Settled, windowsFrom}
 
 -- ---- a window that can be given is settled
 
-pub settled : (count : ℕ) (r : Rule) (w : ℕ) → validWindow count r w ≡ true → Settled r w
+settled : (count : ℕ) (r : Rule) (w : ℕ) → validWindow count r w ≡ true → Settled r w
 settled count r w e = go (leb (r .k) (hitsUpTo maxAge w)) refl (eqb (remembered r w) w) refl e
   where
     go : (x : Bool) → leb (r .k) (hitsUpTo maxAge w) ≡ x → (y : Bool) → eqb (remembered r w) w ≡ y
@@ -83,7 +79,7 @@ one-more k c (suc n) w e =
     rw (same, first, older) (sym (low-digits w n))
 
 -- a hit moves the window up by one age; the oldest age leaves it
-pub hit-moves : (r : Rule) (w : ℕ) → InBounds r → Settled r w → remembered r (1 + 2 * w) ≡ (1 + 2 * w) % 2 ^ (r .m - 1)
+hit-moves : (r : Rule) (w : ℕ) → InBounds r → Settled r w → remembered r (1 + 2 * w) ≡ (1 + 2 * w) % 2 ^ (r .m - 1)
 unfolding live
 hit-moves r w bounds t = go (r .m - 1) (t .kept) refl
   where

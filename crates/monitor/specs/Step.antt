@@ -1,6 +1,6 @@
 -- The monitor's step. Refusals in the order 2, 3, 4; 6; 5; 7. Definitions.
 use Prim.Native.Nat.{ℕ, _+_}
-use mathlib.Core.Bool.{cond}
+use mathlib.Core.Bool.{Bool, cond}
 use mathlib.Core.List.{List}
 use lib.Dec.{ltb}
 use Rattle.rules.specs.declared.Rule.{Rule}
@@ -31,14 +31,16 @@ abbrev pub stepAnswer : Move → ℕ → ℕ → Step
 stepAnswer (Quiet t) mask count = Step.Quiet count (monitorAt t count)
 stepAnswer Signal mask count = Step.Signal count mask freshMonitor
 
--- a step with rules that are accepted: 6, 5, 7, or the answer
+-- by whether the zone, the state and the count can be given: 6, then 5, then 7, else the answer
+abbrev pub stepOrder : Bool → Bool → Bool → Step → Step
+stepOrder zone state count answer =
+    cond zone (cond state (cond count answer (Refused badCount)) (Refused badState)) (Refused badZone)
+
+-- a step with rules that are accepted
 unfoldable pub acceptedStep : List Rule → Monitor → ℕ → Step
 acceptedStep rs m z =
-    cond (ltb z zoneCount)
-    (cond (validState (m .count) rs (m .state))
-    (cond (ltb (m .count) maxNumber) (stepAnswer (moveOf rs (m .state) z) (stateMask rs (m .state) z) (m .count + 1)) (Refused badCount))
-    (Refused badState))
-    (Refused badZone)
+    stepOrder (ltb z zoneCount) (validState (m .count) rs (m .state)) (ltb (m .count) maxNumber)
+    (stepAnswer (moveOf rs (m .state) z) (stateMask rs (m .state) z) (m .count + 1))
 
 -- 2, 3 and 4 come first
 abbrev pub stepBy : Checked → List Rule → Monitor → ℕ → Step

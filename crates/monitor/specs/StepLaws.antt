@@ -9,14 +9,17 @@ use native.Mathlib.Omega.{arith}
 use lib.Dec.{eqb}
 use borrow.Author.Tests.{lt-ltb, le-ltb, eq-eqb, ne-eqb}
 use Rattle.rules.specs.declared.Rule.{Rule}
+use Rattle.rules.specs.declared.RuleList.{RuleList}
+use Rattle.rules.specs.declared.Checked.the-variants.{Accepted}
 use Rattle.rules.specs.Bounds.{zoneCount, maxNumber}
+use Rattle.rules.specs.Check.{activeRules, checkOf}
 use Rattle.rules.specs.Refusal.{badState, badZone, badCount}
 use Rattle.monitor.specs.declared.Monitor.{Monitor}
 use Rattle.monitor.specs.declared.Move.the-variants.{Quiet, Signal}
 use Rattle.monitor.specs.declared.Step.{Step}
 use Rattle.monitor.specs.declared.Step.the-variants.{Refused}
 use Rattle.monitor.specs.State.{validState, stateMask, nextState, moveOf}
-use Rattle.monitor.specs.Step.{monitorAt, freshMonitor, stepAnswer, acceptedStep}
+use Rattle.monitor.specs.Step.{monitorAt, freshMonitor, stepAnswer, acceptedStep, stepOf}
 use Rattle.monitor.specs.Take.{takenOf}
 use Rattle.monitor.specs.declared.Taken.{Taken}
 
@@ -32,6 +35,11 @@ module _ (rs : List Rule) (s z : ℕ) where
   move-quiet e = rw (eq-eqb (stateMask rs s z) 0 e)
 
 -- ---- the step
+
+pub rules-accepted : (l : RuleList) → checkOf l ≡ Accepted → (m : Monitor) (z : ℕ)
+    → stepOf l m z ≡ acceptedStep (activeRules l) m z
+unfolding stepOf
+rules-accepted l ok m z = rw ok
 
 pub step-bad-zone : (rs : List Rule) (m : Monitor) (z : ℕ) → zoneCount ≤ z → acceptedStep rs m z ≡ Refused badZone
 unfolding acceptedStep

@@ -25,15 +25,15 @@ use Rattle.monitor.specs.declared.Monitor.{Monitor}
 use Rattle.monitor.specs.Window.{maxAge, windowBase, hitsUpTo, remembered, nextWindow, windowHolds, validWindow}
 use Rattle.monitor.specs.WindowLaws.{live-le}
 use Rattle.monitor.specs.ForgetLaws.{live-again, hits-fewer, hits-no-older, hits-first}
-use Rattle.monitor.specs.State.{validState, holding, stateMask, nextState}
+use Rattle.monitor.specs.State.{emptyState, validState, holding, stateMask, nextState}
+use Rattle.monitor.specs.Settled.{CanBeGiven}
 use Rattle.monitor.specs.StateLaws.{window-small}
-use Rattle.monitor.specs.StepLaws.{step-signal, step-quiet, take-signal, take-quiet}
+use Rattle.monitor.specs.StepLaws.{rules-accepted, step-signal, step-quiet, take-signal, take-quiet}
 use Rattle.monitor.specs.SettledLaws.{both}
 use Rattle.monitor.specs.Take.{takenOf, takenAnswers}
 use Rattle.monitor.specs.Calls.{monitorAnswers}
 use Rattle.runlength.specs.Sequence.{AllBelow}
 use Rattle.monitor.specs.RowLaws.{young, digit, digits, bit-zero, valid-of-row, empty-row-state, empty-row-mask}
-use Rattle.monitor.specs.Agreement.{rules-accepted}
 
 -- ---- one rule
 
@@ -95,6 +95,18 @@ valid-next (r ∷ rs) p count s z zone v e =
 -- the empty state can be given with no point counted
 pub fresh-valid : (rs : List Rule) → AllInBounds rs → validState 0 rs 0 ≡ true
 fresh-valid rs p = ap (λ (s : ℕ). validState 0 rs s) (sym (empty-row-state rs)) ∙ valid-of-row rs p [] (empty-row-mask rs p)
+
+-- ---- whatever the count
+
+-- the empty state can be given
+pub empty-given : (rs : List Rule) → AllInBounds rs → CanBeGiven rs emptyState
+empty-given rs p = record { count = 0; valid = fresh-valid rs p }
+
+-- so can a state after a quiet point, where the one before it can
+pub quiet-given : (rs : List Rule) → AllInBounds rs → (s z : ℕ) → z < zoneCount → CanBeGiven rs s → stateMask rs s z ≡ 0
+    → CanBeGiven rs (nextState rs s z)
+quiet-given rs p s z zone g e =
+    record { count = g .count + 1; valid = valid-next rs p (g .count) s z zone (g .valid) e }
 
 -- a point that is taken leads from a monitor that can be given to one that can be given
 pub taken-valid : (rs : List Rule) → AllInBounds rs → (m : Monitor) (z : ℕ) → z < zoneCount → validState (m .count) rs (m .state) ≡ true

@@ -25,7 +25,8 @@ cond-le false b = omega arith
 
 -- ---- one age at a time
 
-pub live-cons : (k seen room w : ℕ) → 0 < room → live k seen room w ≡ liveHit k (seen + w % 2) room (w % 2) + 2 * live k (seen + w % 2) (room - 1) (w / 2)
+live-cons : (k seen room w : ℕ) → 0 < room
+    → live k seen room w ≡ liveHit k (seen + w % 2) room (w % 2) + 2 * live k (seen + w % 2) (room - 1) (w / 2)
 unfolding live
 live-cons k seen zero w h = absurd (omega arith)
 live-cons k seen (suc n) w h = let e : suc n - 1 ≡ n = omega arith in rw e

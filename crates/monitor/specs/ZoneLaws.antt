@@ -6,8 +6,9 @@ use native.Mathlib.Omega.{arith}
 use lib.IntN.{ℤ, pos, negsuc, _+ℤ_, _-ℤ_, negℤ, negℤ-+ℤ, +ℤ-assoc, +ℤ-comm, +ℤ-invr, +ℤ-idl}
 use lib.Signed.{mag}
 use lib.Dec.{leb}
-use borrow.Author.Tests.{lt-ltb, le-ltb, lt-leb, le-leb}
+use borrow.Author.Tests.{lt-ltb, le-ltb}
 use Rattle.rules.specs.Bounds.{zoneCount}
+use Rattle.rules.specs.Check.{within}
 use Rattle.rules.specs.Refusal.{badSigma}
 use Rattle.monitor.specs.Zone.{minSigma, maxSigma, zoneS, zoneA1, zoneB1, zoneC1, zoneC2, zoneB2, zoneA2, band, zoneAt, zoneOf}
 use Rattle.monitor.specs.declared.zone.ZoneAnswer.the-variants.{Zone, Refused}
@@ -53,17 +54,14 @@ module _ (reading centre : ℤ) (a b sigma : ℕ) (ea : pos a ≡ reading +ℤ p
 -- ---- the zone by sigma
 
 module _ (reading centre : ℤ) (sigma : ℕ) where
-  pub zone-within : minSigma ≤ sigma → sigma ≤ maxSigma → zoneOf reading centre sigma ≡ Zone (zoneAt (reading -ℤ centre) sigma)
+  pub zone-fits : within minSigma maxSigma sigma ≡ true
+      → zoneOf reading centre sigma ≡ Zone (zoneAt (reading -ℤ centre) sigma)
   unfolding zoneOf
-  zone-within low high = rw (le-leb minSigma sigma low, le-leb sigma maxSigma high)
+  zone-fits e = rw e
 
-  pub zone-low : sigma < minSigma → zoneOf reading centre sigma ≡ Refused badSigma
+  pub zone-refused : within minSigma maxSigma sigma ≡ false → zoneOf reading centre sigma ≡ Refused badSigma
   unfolding zoneOf
-  zone-low h = rw (lt-leb minSigma sigma h)
-
-  pub zone-high : maxSigma < sigma → zoneOf reading centre sigma ≡ Refused badSigma
-  unfolding zoneOf
-  zone-high h = rw (le-leb minSigma sigma (omega arith), lt-leb sigma maxSigma h)
+  zone-refused e = rw e
 
 -- ---- every offset has a zone that exists
 

@@ -11,6 +11,7 @@ ghost use Rattle.rules.specs.Bounds.{zoneCount, maxRules, maxNumber};
 ghost use Rattle.rules.specs.Check.{activeRules};
 ghost use Rattle.rules.specs.InBounds.{AllInBounds};
 ghost use Rattle.monitor.specs.State.{validState, moveOf};
+ghost use Rattle.monitor.specs.Settled.{CanBeGiven};
 ghost use Rattle.monitor.specs.Step.{acceptedStep, freshMonitor, stepOf};
 ghost use Rattle.monitor.specs.Take.{takenOf};
 
@@ -51,13 +52,15 @@ pub enum Move {
     Signal,
 }
 
-// The move by state and zone, for rules that are accepted.
+// The move by state and zone, for accepted rules and a state that can be given. For the crates of this repository.
 pub fn move_of(list: RuleList, state: u64, zone: u32) -> Move
     requires { ⌜ (list .len ≤ maxRules) × AllInBounds (activeRules list) × (zone < zoneCount) ⌝ }
+    requires given { ⌜ CanBeGiven (activeRules list) state ⌝ }
     ensures { λ r. ⌜ r ≡ moveOf (activeRules list) state zone ⌝ }
 {
-    if state::mask(list, state, zone) == 0 {
-        Move::Quiet(state::next_state(list, state, zone))
+    let moved = state::moved(list, state, zone);
+    if moved.mask == 0 {
+        Move::Quiet(moved.next)
     } else {
         Move::Signal
     }
@@ -71,7 +74,7 @@ impl Monitor {
         Monitor { state: 0, count: 0 }
     }
 
-    // Whether the monitor can be given with rules that are accepted.
+    // Whether the monitor can be given with rules that are accepted. For the crates of this repository.
     pub fn valid(self, list: RuleList) -> bool
         requires { ⌜ (list .len ≤ maxRules) × AllInBounds (activeRules list) ⌝ }
         ensures { λ t. ⌜ t ≡ validState (self .count) (activeRules list) (self .state) ⌝ }
@@ -79,36 +82,27 @@ impl Monitor {
         state::valid_state(list, self.count, self.state)
     }
 
-    // One point, for rules that are accepted, a zone that exists, a state that can be given and a count that is not full: every rule's window
-    // is moved once, from the last rule to the first.
+    // One point, for rules that are accepted, a zone that exists, a state that can be given and a count with room. For
+    // the crates of this repository.
     pub fn take(self, list: RuleList, zone: u32) -> Taken
         requires { ⌜ (list .len ≤ maxRules) × AllInBounds (activeRules list) × (zone < zoneCount) × (self .count < maxNumber) ⌝ }
         requires { ⌜ validState (self .count) (activeRules list) (self .state) ≡ true ⌝ }
         ensures { λ r. ⌜ r ≡ takenOf (activeRules list) self zone ⌝ }
     {
-        let len = list.len;
-        let rules = list.rules;
-        let state = self.state;
         let points = self.count;
-        let mut mask: u32 = 0;
-        let mut next: u64 = 0;
-        let mut i = len;
-        while i > 0 {
-            i -= 1;
-            let moved = window::settled_move(rules[i as usize], state::window_at(state, i), zone);
-            mask = moved.holds + 2 * mask;
-            next = moved.next + window::BASE * next;
-        }
+        let moved = state::moved(list, self.state, zone);
+        let mask = moved.mask;
         if mask != 0 {
             return Taken {
                 mask,
                 next: Monitor { state: 0, count: 0 },
             };
         }
+        let state = moved.next;
         let count = points + 1;
         Taken {
             mask,
-            next: Monitor { state: next, count },
+            next: Monitor { state, count },
         }
     }
 

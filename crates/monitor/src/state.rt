@@ -7,6 +7,13 @@ ghost use Rattle.rules.specs.Check.{activeRules};
 ghost use Rattle.rules.specs.InBounds.{AllInBounds};
 ghost use Rattle.monitor.specs.Window.{maxAge, windowBase};
 ghost use Rattle.monitor.specs.State.{validState, stateMask, nextState};
+ghost use Rattle.monitor.specs.Settled.{CanBeGiven};
+
+// What a point does to a state: the mask of the rules that hold, and every window with the point in it.
+pub(crate) struct StateMove {
+    pub(crate) mask: u32,
+    pub(crate) next: u64,
+}
 
 // Whether the state can be given with these rules and this many points.
 pub(crate) fn valid_state(list: RuleList, count: u32, state: u64) -> bool
@@ -28,43 +35,30 @@ pub(crate) fn valid_state(list: RuleList, count: u32, state: u64) -> bool
 }
 
 // The window of rule i.
-pub(crate) fn window_at(state: u64, i: u32) -> u64
+fn window_at(state: u64, i: u32) -> u64
     requires { ⌜ i < maxRules ⌝ }
     ensures { λ w. ⌜ w ≡ state / 2 ^ (maxAge * i) % windowBase ⌝ }
 {
     (state >> (crate::window::MAX_AGE * i)) % crate::window::BASE
 }
 
-// The mask of the rules that hold, from the last rule to the first.
-pub(crate) fn mask(list: RuleList, state: u64, zone: u32) -> u32
-    requires { ⌜ (list .len ≤ maxRules) × (zone < zoneCount) ⌝ }
-    ensures { λ n. ⌜ n ≡ stateMask (activeRules list) state zone ⌝ }
-{
-    let len = list.len;
-    let rules = list.rules;
-    let mut others: u32 = 0;
-    let mut i = len;
-    while i > 0 {
-        i -= 1;
-        let first = crate::window::holds(rules[i as usize], window_at(state, i), zone);
-        others = first + 2 * others;
-    }
-    others
-}
-
-// The next windows of all rules, from the last rule to the first.
-pub(crate) fn next_state(list: RuleList, state: u64, zone: u32) -> u64
+// A point in a state that can be given: every rule's window is moved once, from the last rule to the first.
+pub(crate) fn moved(list: RuleList, state: u64, zone: u32) -> StateMove
     requires { ⌜ (list .len ≤ maxRules) × AllInBounds (activeRules list) × (zone < zoneCount) ⌝ }
-    ensures { λ n. ⌜ n ≡ nextState (activeRules list) state zone ⌝ }
+    requires given { ⌜ CanBeGiven (activeRules list) state ⌝ }
+    ensures mask { λ r. ⌜ r .mask ≡ stateMask (activeRules list) state zone ⌝ }
+    ensures next { λ r. ⌜ r .next ≡ nextState (activeRules list) state zone ⌝ }
 {
     let len = list.len;
     let rules = list.rules;
-    let mut others: u64 = 0;
+    let mut mask: u32 = 0;
+    let mut next: u64 = 0;
     let mut i = len;
     while i > 0 {
         i -= 1;
-        let first = crate::window::next_window(rules[i as usize], window_at(state, i), zone);
-        others = first + crate::window::BASE * others;
+        let moved = crate::window::settled_move(rules[i as usize], window_at(state, i), zone);
+        mask = moved.holds + 2 * mask;
+        next = moved.next + crate::window::BASE * next;
     }
-    others
+    StateMove { mask, next }
 }

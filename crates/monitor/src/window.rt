@@ -7,7 +7,7 @@ ghost use Rattle.rules.specs.Bounds.{zoneCount};
 ghost use Rattle.rules.specs.InBounds.{InBounds};
 ghost use Rattle.rules.specs.Mask.{bit};
 ghost use Rattle.rules.specs.ZoneSet.{inZoneSet};
-ghost use Rattle.monitor.specs.SettledLaws.{Settled};
+ghost use Rattle.monitor.specs.Settled.{Settled};
 ghost use Rattle.monitor.specs.Window.{maxAge, windowBase, hitsUpTo, live, nextWindow, windowHolds, validWindow};
 
 // The oldest age that any rule can remember, and the number of different windows.
@@ -53,17 +53,8 @@ fn hits(window: u64) -> u64
     u64::count_ones(window % BASE) as u64
 }
 
-// The window with one more point in it, and what is then remembered.
-pub(crate) fn next_window(rule: Rule, window: u64, zone: u32) -> u64
-    requires { ⌜ InBounds rule × (window < windowBase) × (zone < zoneCount) ⌝ }
-    ensures { λ n. ⌜ n ≡ nextWindow rule window zone ⌝ }
-{
-    let h = hit(rule.zones, zone);
-    live_hits(rule.k as u64, 0, (rule.m - 1) as u64, h + 2 * window)
-}
-
 // 1 if the rule holds with a point in the zone, else 0.
-pub(crate) fn holds(rule: Rule, window: u64, zone: u32) -> u32
+fn holds(rule: Rule, window: u64, zone: u32) -> u32
     requires { ⌜ zone < zoneCount ⌝ }
     ensures { λ n. ⌜ n ≡ bit (windowHolds rule window zone) ⌝ }
 {

@@ -3,7 +3,8 @@ use rules::Refusal;
 ghost use mathlib.Core.Path.{_≡_};
 ghost use Prim.Native.Nat.{_+_, _≤_, _<_};
 ghost use lib.IntN.{pos, _+ℤ_, _-ℤ_};
-ghost use Rattle.monitor.specs.Zone.{zoneOf, zoneAt, band, maxSigma};
+ghost use Rattle.rules.specs.Check.{within};
+ghost use Rattle.monitor.specs.Zone.{zoneOf, zoneAt, band, minSigma, maxSigma};
 
 pub enum ZoneAnswer {
     Zone(u32),
@@ -32,6 +33,13 @@ impl ZoneAnswer {
     pub const A2: u32 = 6;
 }
 
+// Whether sigma is within its bounds.
+pub fn sigma_fits(sigma: u32) -> bool
+    ensures { λ t. ⌜ t ≡ within minSigma maxSigma sigma ⌝ }
+{
+    rules::within(ZoneAnswer::MIN_SIGMA, ZoneAnswer::MAX_SIGMA, sigma)
+}
+
 // A signed number as an unsigned one, 2^31 higher, so that differences stay unsigned.
 fn biased(x: i32) -> u64
     ensures { λ r. ⌜ pos r ≡ x +ℤ pos 2147483648 ⌝ }
@@ -57,7 +65,7 @@ fn band_of(sigma: u32, distance: u64, one: u32, two: u32, three: u32) -> u32
     ZoneAnswer::S
 }
 
-// The zone of a reading where sigma is within its bounds.
+// The zone of a reading where sigma is within its bounds. For the crates of this repository.
 pub fn zone_at(reading: i32, centre: i32, sigma: u32) -> u32
     requires { ⌜ sigma ≤ maxSigma ⌝ }
     ensures { λ z. ⌜ z ≡ zoneAt (reading -ℤ centre) sigma ⌝ }
@@ -87,13 +95,7 @@ pub fn zone_at(reading: i32, centre: i32, sigma: u32) -> u32
 pub fn zone_of(reading: i32, centre: i32, sigma: u32) -> ZoneAnswer
     ensures { λ z. ⌜ z ≡ zoneOf reading centre sigma ⌝ }
 {
-    if sigma < ZoneAnswer::MIN_SIGMA {
-        return ZoneAnswer::Refused(Refusal {
-            number: Refusal::SIGMA,
-            place: 0,
-        });
-    }
-    if sigma > ZoneAnswer::MAX_SIGMA {
+    if !sigma_fits(sigma) {
         return ZoneAnswer::Refused(Refusal {
             number: Refusal::SIGMA,
             place: 0,

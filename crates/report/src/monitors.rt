@@ -2,24 +2,12 @@
 use crate::ReportAnswer;
 use crate::points::Chart;
 use crate::points::put_points;
-use monitor::zone::ZoneAnswer;
+use monitor::zone::sigma_fits;
 use rules::Checked;
 use rules::Refusal;
 ghost use mathlib.Core.Path.{_≡_};
-ghost use Rattle.rules.specs.Check.{within};
-ghost use Rattle.monitor.specs.Zone.{minSigma, maxSigma};
 ghost use Rattle.report.specs.Printed.{report, reportOf};
 ghost use Rattle.report.specs.MonitorReport.{monitorPrinted};
-
-// Whether sigma is in its bounds.
-fn sigma_fits(sigma: u32) -> bool
-    ensures { λ t. ⌜ t ≡ within minSigma maxSigma sigma ⌝ }
-{
-    if sigma < ZoneAnswer::MIN_SIGMA {
-        return false;
-    }
-    sigma <= ZoneAnswer::MAX_SIGMA
-}
 
 // The monitor program's lines for a text, in the lent buffer; or the refusal, with the buffer as it was: 17; 16; then 2, 3, 4; then 1, also
 // where there are no points.

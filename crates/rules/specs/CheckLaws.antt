@@ -1,5 +1,5 @@
 -- Laws of the check: rule by rule, and what an accepted list has.
-use mathlib.Core.Path.{_≡_, refl, sym, ap, _∙_}
+use mathlib.Core.Path.{_≡_, refl, sym, _∙_}
 use mathlib.Core.Bool.{Bool, true, false, cond}
 use mathlib.Core.List.{List, [], _∷_}
 use Prim.Native.Nat.{ℕ, suc, _+_, _-_, _≤_, _<_}
@@ -35,6 +35,21 @@ check-cons slots n i h = rw (rules-cons slots n i h)
 pub check-none : (slots : List Rule) (n i : ℕ) → n ≤ i → checkRules i (rulesFrom (n - i) i slots) ≡ Accepted
 unfolding checkRules
 check-none slots n i h = rw (rules-none slots n i h)
+
+-- ---- what a match on an answer tells: by its tag, 0 for accepted and 1 for refused
+
+module _ (tag : Checked → ℕ) where
+  pub is-accepted : ((x : Refusal) → tag (Refused x) ≡ 1) → {a b : Checked} → a ≡ b → tag a ≡ 0 → b ≡ Accepted
+  is-accepted one {a} e h = sym e ∙ go a h
+    where
+      go : (a : Checked) → tag a ≡ 0 → a ≡ Accepted
+      go Accepted h = refl
+      go (Refused x) h = absurd (omega (arith, one x))
+
+  -- a refusal comes before whatever would follow it
+  pub is-refused : tag Accepted ≡ 0 → (a b : Checked) → tag a ≡ 1 → orElse a b ≡ a
+  is-refused none Accepted b h = absurd (omega arith)
+  is-refused none (Refused x) b h = refl
 
 -- ---- what an accepted list has
 

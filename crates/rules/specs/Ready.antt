@@ -1,6 +1,6 @@
 -- The two ready lists: the length and every slot. Definitions.
 use Prim.Native.Nat.{ℕ}
-use mathlib.Core.List.{List, [], _∷_}
+use mathlib.Core.List.{[], _∷_}
 use Rattle.rules.specs.declared.Rule.{Rule}
 use Rattle.rules.specs.declared.RuleList.{RuleList}
 use Rattle.rules.specs.Check.{noRule}

@@ -1,6 +1,6 @@
 // Rule lists: the number of zones, the bounds, the two ready lists and the check; and the refusals of every operation.
 ghost use mathlib.Core.Path.{_≡_};
-ghost use Rattle.rules.specs.Check.{checkOf, checkRule};
+ghost use Rattle.rules.specs.Check.{within as inRange, checkOf, checkRule};
 ghost use Rattle.rules.specs.Ready.{ruleOf, westernElectric, duncanList};
 
 mod refusal;
@@ -32,6 +32,16 @@ pub enum Checked {
     Refused(Refusal),
 }
 
+// Whether low ≤ x ≤ high.
+pub fn within(low: u32, high: u32, x: u32) -> bool
+    ensures { λ t. ⌜ t ≡ inRange low high x ⌝ }
+{
+    if x < low {
+        return false;
+    }
+    x <= high
+}
+
 impl Rule {
     pub fn new(k: u32, m: u32, zones: u32) -> Rule
         ensures { λ r. ⌜ r ≡ ruleOf k m zones ⌝ }
@@ -43,37 +53,16 @@ impl Rule {
     fn check(self, at: u32) -> Checked
         ensures { λ r. ⌜ r ≡ checkRule at self ⌝ }
     {
-        if self.m < RuleList::MIN_WINDOW {
+        let window = within(RuleList::MIN_WINDOW, RuleList::MAX_WINDOW, self.m);
+        let hits = within(RuleList::MIN_HITS, self.m, self.k);
+        let zones = within(RuleList::MIN_ZONE_SET, RuleList::MAX_ZONE_SET, self.zones);
+        if !(window & hits) {
             return Checked::Refused(Refusal {
                 number: Refusal::RULE_BOUNDS,
                 place: at,
             });
         }
-        if self.m > RuleList::MAX_WINDOW {
-            return Checked::Refused(Refusal {
-                number: Refusal::RULE_BOUNDS,
-                place: at,
-            });
-        }
-        if self.k < RuleList::MIN_HITS {
-            return Checked::Refused(Refusal {
-                number: Refusal::RULE_BOUNDS,
-                place: at,
-            });
-        }
-        if self.k > self.m {
-            return Checked::Refused(Refusal {
-                number: Refusal::RULE_BOUNDS,
-                place: at,
-            });
-        }
-        if self.zones < RuleList::MIN_ZONE_SET {
-            return Checked::Refused(Refusal {
-                number: Refusal::ZONE_SET,
-                place: at,
-            });
-        }
-        if self.zones > RuleList::MAX_ZONE_SET {
+        if !zones {
             return Checked::Refused(Refusal {
                 number: Refusal::ZONE_SET,
                 place: at,
@@ -145,13 +134,7 @@ impl RuleList {
         ensures { λ r. ⌜ r ≡ checkOf self ⌝ }
     {
         let len = self.len;
-        if len < RuleList::MIN_RULES {
-            return Checked::Refused(Refusal {
-                number: Refusal::RULE_COUNT,
-                place: 0,
-            });
-        }
-        if len > RuleList::MAX_RULES {
+        if !within(RuleList::MIN_RULES, RuleList::MAX_RULES, len) {
             return Checked::Refused(Refusal {
                 number: Refusal::RULE_COUNT,
                 place: 0,

@@ -1,12 +1,13 @@
 -- What exploring asks for and what it answers. Definitions.
-use Prim.Native.Nat.{ℕ, _+_, _*_, _<_, _≤_}
+use Prim.Native.Nat.{ℕ, _+_, _*_, _/_, _<_, _≤_}
 use mathlib.Core.Path.{_≡_}
 use mathlib.Core.List.{List}
-use lib.ListN.{length, take}
+use lib.ListN.{length, getD, take}
 use Rattle.rules.specs.declared.RuleList.{RuleList}
 use Rattle.rules.specs.Bounds.{zoneCount, maxRules, maxStates}
 use Rattle.rules.specs.Check.{activeRules}
 use Rattle.rules.specs.InBounds.{AllInBounds}
+use Rattle.monitor.specs.Settled.{CanBeGiven}
 use Rattle.runlength.specs.Automaton.{Automaton}
 use Rattle.states.specs.States.{worklist, next, states, moves}
 
@@ -26,11 +27,12 @@ pub record Explored (a : Automaton ℕ) (found entries : List ℕ) (r : ℕ) : T
   pub found-length : length found ≡ maxStates
   pub entries-length : length entries ≡ a .zones * maxStates
 
--- what one turn needs: the move k is one of n states'
+-- what one turn needs: the move k is one of n states', and its state is one that can be given
 pub record Visitable (list : RuleList) (found entries : List ℕ) (n k : ℕ) : Type 0 where
   pub can : Explorable list found entries
   pub few : n ≤ maxStates
   pub below : k < zoneCount * n
+  pub given : CanBeGiven (activeRules list) (getD found (k / zoneCount) 0)
 
 -- what one turn does: r states after it, `maxStates + 1` for too many
 pub record Visited (a : Automaton ℕ) (found entries found′ entries′ : List ℕ) (n k r : ℕ) : Type 0 where

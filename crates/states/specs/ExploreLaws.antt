@@ -11,9 +11,9 @@ use lib.ListN.{length, getD, take, set, length-append, length-set}
 use lib.Seq.{getD-take, length-take-le, take-suc-set}
 use Rattle.rules.specs.Bounds.{maxStates}
 use Rattle.runlength.specs.Automaton.{Automaton, quiet, signal}
-use Rattle.states.specs.States.{placeOf, withState, Worklist, worklist, enter, busy, due, next, turns, explored, states, moves}
+use Rattle.states.specs.States.{Met, placeOf, withState, Worklist, worklist, enter, busy, due, next, turns, explored, states, moves}
 use Rattle.states.specs.PlaceLaws.{index-state, place-le}
-use Rattle.states.specs.WorklistLaws.{full-idle, over-idle, idle-explored}
+use Rattle.states.specs.WorklistLaws.{turns-sound, full-idle, over-idle, idle-explored}
 use Rattle.states.specs.Explore.{Visited, Explored}
 
 -- the place of a state among the first n is at most n
@@ -116,6 +116,14 @@ module _ (a : Automaton ℕ) where
     -- no more entries than there is room for
     pub explore-room : k ≤ a .zones * maxStates
     explore-room = omega (arith, w .at, mul-le-mul-left {m = n} {n = maxStates} (a .zones) (w .few))
+
+    -- the state that the next move is of is met
+    pub explore-met : k < a .zones * n → Met a (getD f (k / a .zones) 0)
+    explore-met h =
+        let i = index-state (a .zones) n k h in
+        let ln : length (take n f) ≡ n = length-take-le n f (omega arith) in
+        let met = rw (w .state) at (turns-sound a k .all-met .met (k / a .zones)) in
+        rw (getD-take n f (k / a .zones) 0 i) at (met (omega arith))
 
     pub explore-done : a .zones * n ≤ k → Explored a f m n
     unfolding states moves

@@ -10,8 +10,9 @@ use Rattle.monitor.specs.declared.Move.the-variants.{Quiet, Signal}
 use Rattle.monitor.specs.State.{moveOf}
 use Rattle.states.specs.States.{placeOf}
 use Rattle.states.specs.Automata.{automatonMove, stateAutomaton}
+use Rattle.states.specs.AutomataLaws.{met-given}
 use Rattle.states.specs.Explore.{Explorable, Visitable, Visited}
-use Rattle.states.specs.ExploreLaws.{Exploring, turn-signal, turn-known, turn-new, turn-over}
+use Rattle.states.specs.ExploreLaws.{Exploring, explore-met, turn-signal, turn-known, turn-new, turn-over}
 
 module _ {list : RuleList} {f m : List ℕ} {n k : ℕ} (v : Visitable list f m n k) where
   pub visit-signal : moveOf (activeRules list) (getD f (k / zoneCount) 0) (k % zoneCount) ≡ Signal
@@ -35,8 +36,9 @@ module _ {list : RuleList} {f m : List ℕ} {n k : ℕ} (v : Visitable list f m 
 -- while moves are left, the next one can be looked at
 pub visit-can : {list : RuleList} {f₀ m₀ f m : List ℕ} {n k : ℕ} → Explorable list f₀ m₀ → Exploring (stateAutomaton (activeRules list)) f m n k → k < zoneCount * n
     → Visitable list f m n k
-visit-can p w h = record {
+visit-can {list} p w h = record {
   can = record { few-rules = p .few-rules; bounds = p .bounds; found-room = w .lf; entries-room = w .lm };
   few = w .few;
   below = h;
+  given = met-given (activeRules list) (p .bounds) (explore-met (stateAutomaton (activeRules list)) w h);
 }

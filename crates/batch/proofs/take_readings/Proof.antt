@@ -1,14 +1,15 @@
 -- `take_readings` meets its contract: a reason to take none for each return, and else the batch with all of that settled.
-use mathlib.Core.Path.{sym, ap, _∙_}
+use mathlib.Core.Path.{refl, sym, ap, _∙_}
 use native.Mathlib.Omega.{arith}
 use lib.IntN.{ℤ}
 use mir.Facts.{toZ-ofZ}
+use denote.Enum.Declared.{tagOf}
 use borrow.Author.Needs.{needs}
 use borrow.Author.Tests.{not-true, not-false}
-use Rattle.rules.specs.CheckLaws.{accepted}
-use Rattle.rules.proofs.Tags.{is-accepted}
+use Rattle.rules.specs.CheckLaws.{accepted, is-accepted}
+use Rattle.rules.proofs.Checked.{the-type}
 use Rattle.batch.specs.Batch.{batchOf}
-use Rattle.batch.specs.BatchLaws.{no-reading, rules-refused, sigma-low, sigma-high, state-refused}
+use Rattle.batch.specs.BatchLaws.{no-reading, rules-refused, sigma-refused, state-refused}
 use Rattle.batch.proofs.take_readings.Statement.{statement}
 use Rattle.batch.proofs.take_readings.Tie as tie
 
@@ -34,71 +35,72 @@ returns-2 c =
     let found = c .before .before .before .before in
     let s = found .before .before .args in
     let refused = sym (found .check .ensures) ∙ c .before .before .checked .given .1 in
-    c .none-taken2 .ensures ∙ sym (rules-refused (s .list) (s .monitor) (s .centre) (s .sigma) (s .readings .now) (omega arith) _ refused)
+    c .none-taken2 .ensures
+    ∙ sym (rules-refused (s .list) (s .monitor) (s .centre) (s .sigma) (s .readings .now) (omega arith) _ refused)
 
 enum-told : tie.Need-enum-told
 enum-told c = search needs
+
+sigma-fits-requires : tie.Need-sigma-fits-requires
+sigma-fits-requires c κs = search needs
 
 none-taken-requires-3 : tie.Need-none-taken-requires-3
 none-taken-requires-3 c κs = search needs
 
 returns-3 : tie.Need-returns-3
 returns-3 c =
-    let found = c .before .before .before .before in
-    let start = found .before .before in
-    let s = start .args in
-    let ok = sym (found .check .ensures) ∙ is-accepted (found .check .result) (c .before .before .before .match .keys2) in
-    c .none-taken3 .ensures ∙ sym (sigma-low (s .list) (s .monitor) (s .centre) (s .sigma) (s .readings .now) (omega arith) ok (omega arith))
+    let sigma = c .before .before in
+    let told = sigma .before .before in
+    let found = told .before in
+    let s = found .before .before .args in
+    let ok = is-accepted (tagOf the-type) (λ x. refl) (found .check .ensures) (told .match .keys2) in
+    let bad = sym (sigma .sigma-fits .ensures) ∙ not-true (sigma .sigma-fits .result) (c .before .if2 .taken) in
+    c .none-taken3 .ensures
+    ∙ sym (sigma-refused (s .list) (s .monitor) (s .centre) (s .sigma) (s .readings .now) (omega arith) ok bad)
+
+valid-requires : tie.Need-valid-requires
+valid-requires c κs =
+    let told = c .before .before .before in
+    let found = told .before in
+    let s = found .before .before .args in
+    let ok = is-accepted (tagOf the-type) (λ x. refl) (found .check .ensures) (told .match .keys2) in
+    let p = accepted (s .list) ok in
+    (p .1, p .2)
 
 none-taken-requires-4 : tie.Need-none-taken-requires-4
 none-taken-requires-4 c κs = search needs
 
 returns-4 : tie.Need-returns-4
 returns-4 c =
-    let found = c .before .before .before .before .before in
-    let start = found .before .before in
-    let s = start .args in
-    let ok = sym (found .check .ensures) ∙ is-accepted (found .check .result) (c .before .before .before .before .match .keys2) in
-    c .none-taken4 .ensures ∙ sym (sigma-high (s .list) (s .monitor) (s .centre) (s .sigma) (s .readings .now) (omega arith) ok (omega arith))
-
-valid-requires : tie.Need-valid-requires
-valid-requires c κs =
-    let found = c .before .before .before .before in
-    let start = found .before .before in
-    let s = start .args in
-    let ok = sym (found .check .ensures) ∙ is-accepted (found .check .result) (c .before .before .before .match .keys2) in
-    let p = accepted (s .list) ok in
-    (p .1, p .2)
-
-none-taken-requires-5 : tie.Need-none-taken-requires-5
-none-taken-requires-5 c κs = search needs
-
-returns-5 : tie.Need-returns-5
-returns-5 c =
-    let found = c .before .before .before .before .before .before .before in
-    let start = found .before .before in
-    let s = start .args in
-    let ok = sym (found .check .ensures) ∙ is-accepted (found .check .result) (c .before .before .before .before .before .before .match .keys2) in
-    let valid = c .before .before .valid in
-    c .none-taken5 .ensures
-    ∙ sym (
-    state-refused (s .list) ok (s .centre) (s .sigma) (omega arith) (omega arith) (s .monitor) (s .readings .now) (omega arith)
-    (sym (valid .ensures) ∙ not-true (valid .result) (c .before .if4 .taken)))
+    let valid = c .before .before in
+    let sigma = valid .before .before in
+    let told = sigma .before .before in
+    let found = told .before in
+    let s = found .before .before .args in
+    let ok = is-accepted (tagOf the-type) (λ x. refl) (found .check .ensures) (told .match .keys2) in
+    let fits = sym (sigma .sigma-fits .ensures) ∙ not-false (sigma .sigma-fits .result) (valid .before .if2 .left) in
+    let bad = sym (valid .valid .ensures) ∙ not-true (valid .valid .result) (c .before .if3 .taken) in
+    c .none-taken4 .ensures
+    ∙ sym (state-refused (s .list) (s .monitor) (s .centre) (s .sigma) (s .readings .now) (omega arith) ok fits bad)
 
 take-accepted-requires : tie.Need-take-accepted-requires
 take-accepted-requires c κs =
-    let found = c .before .before .before .before .before .before in
-    let start = found .before .before in
-    let s = start .args in
-    let ok = sym (found .check .ensures) ∙ is-accepted (found .check .result) (c .before .before .before .before .before .match .keys2) in
-    let valid = c .before .valid in
-    (ok, omega arith, omega arith, sym (valid .ensures) ∙ not-false (valid .result) (c .if4 .left))
+    let valid = c .before in
+    let sigma = valid .before .before in
+    let told = sigma .before .before in
+    let found = told .before in
+    record {
+      rules = is-accepted (tagOf the-type) (λ x. refl) (found .check .ensures) (told .match .keys2);
+      fits = sym (sigma .sigma-fits .ensures) ∙ not-false (sigma .sigma-fits .result) (valid .before .if2 .left);
+      valid = sym (valid .valid .ensures) ∙ not-false (valid .valid .result) (c .if3 .left);
+    }
 
-returns-6 : tie.Need-returns-6
-returns-6 c =
+returns-5 : tie.Need-returns-5
+returns-5 c =
     let start = c .before .before .before .before .before .before .before .before .before in
     let s = start .args in
-    c .take-accepted .ensures ∙ ap (λ (t : ℤ). batchOf (s .list) (s .monitor) t (s .sigma) (s .readings .now)) (toZ-ofZ (start .fits .centre))
+    c .take-accepted .ensures
+    ∙ ap (λ (t : ℤ). batchOf (s .list) (s .monitor) t (s .sigma) (s .readings .now)) (toZ-ofZ (start .fits .centre))
 
 pub take-readings-spec : {M : Type 1} → statement M
 take-readings-spec =
@@ -111,12 +113,11 @@ take-readings-spec =
     none-taken-requires-2
     returns-2
     enum-told
+    sigma-fits-requires
     none-taken-requires-3
     returns-3
+    valid-requires
     none-taken-requires-4
     returns-4
-    valid-requires
-    none-taken-requires-5
-    returns-5
     take-accepted-requires
-    returns-6)
+    returns-5)

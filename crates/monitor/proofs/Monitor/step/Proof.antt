@@ -1,9 +1,9 @@
 -- `Monitor::step` meets its contract: the check's refusal, or a step with accepted rules.
-use mathlib.Core.Path.{_≡_, sym, ap, _∙_}
-use native.Mathlib.Omega.{arith}
+use mathlib.Core.Path.{refl, sym, _∙_}
+use denote.Enum.Declared.{tagOf}
 use borrow.Author.Needs.{needs}
-use Rattle.rules.specs.CheckLaws.{accepted}
-use Rattle.rules.proofs.Tags.{is-accepted}
+use Rattle.rules.specs.CheckLaws.{accepted, is-accepted}
+use Rattle.rules.proofs.Checked.{the-type}
 use Rattle.monitor.specs.Step.{stepOf}
 use Rattle.monitor.proofs.Monitor.step.Statement.{statement}
 use Rattle.monitor.proofs.Monitor.step.Tie as tie
@@ -20,7 +20,8 @@ enum-told c = search needs
 accepted-step-requires : tie.Need-accepted-step-requires
 accepted-step-requires c κs =
     let found = c .before .before in
-    let p = accepted (found .before .args .list) (sym (found .check .ensures) ∙ is-accepted (found .check .result) (c .before .match .keys2)) in
+    let ok = is-accepted (tagOf the-type) (λ x. refl) (found .check .ensures) (c .before .match .keys2) in
+    let p = accepted (found .before .args .list) ok in
     (p .1, p .2)
 
 returns : tie.Need-returns
@@ -31,7 +32,8 @@ returns-2 : tie.Need-returns-2
 unfolding stepOf
 returns-2 c =
     let found = c .before .before .before in
-    c .accepted-step .ensures ∙ rw (sym (found .check .ensures) ∙ is-accepted (found .check .result) (c .before .before .match .keys2))
+    let ok = is-accepted (tagOf the-type) (λ x. refl) (found .check .ensures) (c .before .before .match .keys2) in
+    c .accepted-step .ensures ∙ rw ok
 
 pub step-spec : {M : Type 1} → statement M
 step-spec =

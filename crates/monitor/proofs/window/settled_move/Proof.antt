@@ -1,5 +1,5 @@
 -- `window::settled_move` meets its contract: by a hit, an empty window, or a miss.
-use mathlib.Core.Path.{_≡_, refl, sym, _∙_}
+use mathlib.Core.Path.{_≡_, sym, _∙_}
 use native.Mathlib.Omega.{arith}
 use Rattle.rules.specs.ZoneSet.{inZoneSet}
 use Rattle.monitor.specs.SettledLaws.{hit-next, miss-holds, miss-next, miss-empty}

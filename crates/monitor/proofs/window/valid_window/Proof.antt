@@ -1,6 +1,8 @@
 -- `window::valid_window` meets its contract: one of its tests for each return.
-use Prim.Native.Nat.{_-_}
+use mathlib.Core.Path.{ap}
+use Prim.Native.Nat.{ℕ, _-_, _/_, _^_}
 use native.Mathlib.Omega.{arith}
+use lib.Dec.{eqb}
 use borrow.Author.Tests.{le-leb, lt-leb, eq-eqb, ne-eqb}
 use Rattle.monitor.specs.Window.{maxAge, live, hitsUpTo}
 use borrow.Author.Needs.{needs}
@@ -47,8 +49,7 @@ returns-3 c =
     rw (
       lt-leb (a .rule .k) (hitsUpTo maxAge (a .window)) (omega arith),
       eq-eqb (live (a .rule .k) 0 (a .rule .m - 1) (a .window)) (a .window) (omega arith),
-      ← c .oldest .ensures,
-    )
+    ) (ap (λ (t : ℕ). eqb (a .window / 2 ^ t) 0) (c .oldest .ensures))
 
 pub valid-window-spec : {M : Type 1} → statement M
 valid-window-spec =

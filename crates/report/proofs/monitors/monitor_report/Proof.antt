@@ -1,14 +1,15 @@
 -- `report::monitor_report` meets its contract: the text's refusal, the rules', sigma's, or the points' lines.
-use mathlib.Core.Path.{_≡_, sym, _∙_}
+use mathlib.Core.Path.{_≡_, refl, sym, _∙_}
 use native.Mathlib.Omega.{arith}
 use lib.ListN.{length}
 use mir.Val.{toZ, ofZ}
 use mir.Syntax.{w32}
+use denote.Enum.Declared.{tagOf}
 use borrow.Author.Needs.{needs}
 use borrow.Author.Tests.{not-true, not-false}
-use Rattle.rules.specs.CheckLaws.{accepted, between}
+use Rattle.rules.specs.CheckLaws.{accepted, between, is-accepted}
 use Rattle.monitor.specs.Zone.{minSigma, maxSigma}
-use Rattle.rules.proofs.Tags.{is-accepted}
+use Rattle.rules.proofs.Checked.{the-type}
 use Rattle.report.specs.Points.{monitorRoom}
 use Rattle.report.specs.MonitorReportLaws.{monitor-refused, rules-refused, sigma-refused, text-short, points-few, points-written}
 use Rattle.report.proofs.monitors.monitor_report.Statement.{statement}
@@ -51,7 +52,7 @@ returns-3 c =
     let m = e .before .before .before in
     let a = m .before .before .args in
     sigma-refused (a .text .now) (a .out .now) (m .monitor-text .result) (m .monitor-text .ensures) (e .if1 .left)
-    (sym (k .check .ensures) ∙ is-accepted (k .check .result) (f .before .before .match .keys2))
+    (is-accepted (tagOf the-type) (λ x. refl) (k .check .ensures) (f .before .before .match .keys2))
     (sym (f .sigma-fits .ensures) ∙ not-true (f .sigma-fits .result) (c .if2 .taken))
 
 put-points-requires : tie.Need-put-points-requires
@@ -61,7 +62,7 @@ put-points-requires c κs =
     let e = k .before .before in
     let m = e .before .before .before in
     let a = m .before .before .args in
-    let ok = sym (k .check .ensures) ∙ is-accepted (k .check .result) (f .before .before .match .keys2) in
+    let ok = is-accepted (tagOf the-type) (λ x. refl) (k .check .ensures) (f .before .before .match .keys2) in
     let fits = sym (f .sigma-fits .ensures) ∙ not-false (f .sigma-fits .result) (c .before .before .if2 .left) in
     let b = accepted (m .monitor-text .result .list) ok in
     let short = text-short (a .text .now) (a .out .now) (m .monitor-text .result) (m .monitor-text .ensures) (e .if1 .left) ok fits in
@@ -76,7 +77,7 @@ returns-4 c =
     let e = k .before .before in
     let m = e .before .before .before in
     let a = m .before .before .args in
-    let ok = sym (k .check .ensures) ∙ is-accepted (k .check .result) (f .before .before .match .keys2) in
+    let ok = is-accepted (tagOf the-type) (λ x. refl) (k .check .ensures) (f .before .before .match .keys2) in
     let fits = sym (f .sigma-fits .ensures) ∙ not-false (f .sigma-fits .result) (c .before .before .before .if2 .left) in
     let centre : toZ w32 (ofZ w32 (m .monitor-text .result .centre)) ≡ m .monitor-text .result .centre = search needs in
     points-written (a .text .now) (a .out .now) (m .monitor-text .result) (m .monitor-text .ensures) (e .if1 .left) ok fits centre _ _ (c .put-points .ensures)

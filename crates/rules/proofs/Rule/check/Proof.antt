@@ -1,45 +1,71 @@
 -- `Rule::check` meets its contract: each return has the tests that lead to it.
+use mathlib.Core.Path.{_≡_, refl, sym, _∙_}
+use mathlib.Core.Bool.{Bool, true, false, cond, not, _&&_}
+use Prim.Native.Nat.{ℕ}
 use native.Mathlib.Omega.{arith}
-use borrow.Author.Tests.{le-leb, lt-leb}
+use borrow.Author.Needs.{needs}
+use borrow.Author.Tests.{not-true, not-false}
+use Rattle.rules.specs.declared.Rule.{Rule}
+use Rattle.rules.specs.declared.Checked.{Checked}
+use Rattle.rules.specs.declared.Checked.the-variants.{Accepted, Refused}
 use Rattle.rules.specs.Bounds.{minWindow, maxWindow, minHits, minZoneSet, maxZoneSet}
+use Rattle.rules.specs.Check.{within, checkRule}
+use Rattle.rules.specs.Refusal.{badRuleBounds, badZoneSet}
 use Rattle.rules.proofs.Rule.check.Statement.{statement}
 use Rattle.rules.proofs.Rule.check.Tie as tie
 
+-- two tests that refuse alike: one fails, or both pass
+one-fails : (x y : Bool) (a b : Checked) → not (x && y) ≡ true → cond x (cond y a b) b ≡ b
+one-fails true true a b e = let z : _≡_ {A = ℕ} 0 1 = cc in absurd (omega arith)
+one-fails true false a b e = refl
+one-fails false y a b e = refl
+
+both-pass : (x y : Bool) (a b : Checked) → not (x && y) ≡ false → cond x (cond y a b) b ≡ a
+both-pass true true a b e = refl
+both-pass true false a b e = let z : _≡_ {A = ℕ} 0 1 = cc in absurd (omega arith)
+both-pass false y a b e = let z : _≡_ {A = ℕ} 0 1 = cc in absurd (omega arith)
+
+-- the three tests, by what they answered
+module _ (i : ℕ) (r : Rule) {window hits zones : Bool} (w : window ≡ within minWindow maxWindow (r .m))
+    (h : hits ≡ within minHits (r .m) (r .k)) (z : zones ≡ within minZoneSet maxZoneSet (r .zones)) where
+  bad-bounds : not (window && hits) ≡ true → Refused (badRuleBounds i) ≡ checkRule i r
+  bad-bounds t = sym (rw (← w, ← h) (one-fails window hits _ _ t))
+
+  good-bounds : not (window && hits) ≡ false → cond zones Accepted (Refused (badZoneSet i)) ≡ checkRule i r
+  good-bounds t = sym (rw (← w, ← h, ← z) (both-pass window hits _ _ t))
+
+within-requires : tie.Need-within-requires
+within-requires c κs = search needs
+
+within-requires-2 : tie.Need-within-requires-2
+within-requires-2 c κs = search needs
+
+within-requires-3 : tie.Need-within-requires-3
+within-requires-3 c κs = search needs
+
 returns : tie.Need-returns
 returns c =
-    let r = c .before .before .args .self in
-    rw (lt-leb minWindow (r .m) (omega arith))
+    let t = c .before in
+    let a = t .before .before .before .args in
+    bad-bounds (a .at) (a .self) (t .before .before .within .ensures) (t .before .within2 .ensures)
+    (t .within3 .ensures) (c .if1 .taken)
 
 returns-2 : tie.Need-returns-2
 returns-2 c =
-    let r = c .before .before .before .before .args .self in
-    rw (le-leb minWindow (r .m) (omega arith), lt-leb (r .m) maxWindow (omega arith))
+    let t = c .before .before in
+    let a = t .before .before .before .args in
+    sym (rw (not-true (t .within3 .result) (c .if2 .taken)))
+    ∙ good-bounds (a .at) (a .self) (t .before .before .within .ensures) (t .before .within2 .ensures)
+    (t .within3 .ensures) (c .before .if1 .left)
 
 returns-3 : tie.Need-returns-3
 returns-3 c =
-    let r = c .before .before .before .before .before .before .args .self in
-    rw (le-leb minWindow (r .m) (omega arith), le-leb (r .m) maxWindow (omega arith), lt-leb minHits (r .k) (omega arith))
-
-returns-4 : tie.Need-returns-4
-returns-4 c =
-    let r = c .before .before .before .before .before .before .before .before .args .self in
-    rw (le-leb minWindow (r .m) (omega arith), le-leb (r .m) maxWindow (omega arith), le-leb minHits (r .k) (omega arith), lt-leb (r .k) (r .m) (omega arith))
-
-returns-5 : tie.Need-returns-5
-returns-5 c =
-    let r = c .before .before .before .before .before .before .before .before .before .before .args .self in
-    rw (le-leb minWindow (r .m) (omega arith), le-leb (r .m) maxWindow (omega arith), le-leb minHits (r .k) (omega arith), le-leb (r .k) (r .m) (omega arith), lt-leb minZoneSet (r .zones) (omega arith))
-
-returns-6 : tie.Need-returns-6
-returns-6 c =
-    let r = c .before .before .before .before .before .before .before .before .before .before .before .before .args .self in
-    rw (le-leb minWindow (r .m) (omega arith), le-leb (r .m) maxWindow (omega arith), le-leb minHits (r .k) (omega arith), le-leb (r .k) (r .m) (omega arith), le-leb minZoneSet (r .zones) (omega arith), lt-leb (r .zones) maxZoneSet (omega arith))
-
-returns-7 : tie.Need-returns-7
-returns-7 c =
-    let r = c .before .before .before .before .before .before .before .before .before .before .before .before .args .self in
-    rw (le-leb minWindow (r .m) (omega arith), le-leb (r .m) maxWindow (omega arith), le-leb minHits (r .k) (omega arith), le-leb (r .k) (r .m) (omega arith), le-leb minZoneSet (r .zones) (omega arith), le-leb (r .zones) maxZoneSet (omega arith))
+    let t = c .before .before in
+    let a = t .before .before .before .args in
+    sym (rw (not-false (t .within3 .result) (c .if2 .left)))
+    ∙ good-bounds (a .at) (a .self) (t .before .before .within .ensures) (t .before .within2 .ensures)
+    (t .within3 .ensures) (c .before .if1 .left)
 
 pub check-spec : {M : Type 1} → statement M
 check-spec =
-    tie.close (tie.spec returns returns-2 returns-3 returns-4 returns-5 returns-6 returns-7)
+    tie.close (tie.spec within-requires within-requires-2 within-requires-3 returns returns-2 returns-3)

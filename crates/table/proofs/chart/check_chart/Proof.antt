@@ -1,6 +1,8 @@
 -- `chart::check_chart` meets its contract: the rule list's refusal, or the checks of a chart whose rules are accepted.
-use mathlib.Core.Path.{_≡_, sym, _∙_}
-use Rattle.rules.proofs.Tags.{is-accepted}
+use mathlib.Core.Path.{_≡_, refl, sym, _∙_}
+use denote.Enum.Declared.{tagOf}
+use Rattle.rules.proofs.Checked.{the-type}
+use Rattle.rules.specs.CheckLaws.{is-accepted}
 use Rattle.table.specs.ChartLaws.{bad-rules}
 use borrow.Author.Needs.{needs}
 use Rattle.table.proofs.chart.check_chart.Statement.{statement}
@@ -16,7 +18,7 @@ enum-told : tie.Need-enum-told
 enum-told c = search needs
 
 explored-chart-requires : tie.Need-explored-chart-requires
-explored-chart-requires c κs = (sym (c .before .before .before .check .ensures) ∙ is-accepted (c .before .before .before .check .result) (c .before .before .match .keys2), c .before .before .before .before .before .pre)
+explored-chart-requires c κs = (is-accepted (tagOf the-type) (λ x. refl) (c .before .before .before .check .ensures) (c .before .before .match .keys2), c .before .before .before .before .before .pre)
 
 returns : tie.Need-returns
 returns c = let a = c .before .before .before .before .before .args in bad-rules (a .list) (a .weights) (a .horizon) (sym (c .before .before .before .check .ensures) ∙ c .before .checked .given .1)
