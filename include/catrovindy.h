@@ -44,7 +44,7 @@ extern "C" {
 
 #define CATROVINDY_MAX_TEXT 65536      /* the most bytes of a report's text */
 #define CATROVINDY_MAX_ROWS 4096       /* the largest horizon of a table report */
-#define CATROVINDY_TABLE_SIZE 344576   /* the buffer of a table report */
+#define CATROVINDY_TABLE_SIZE 344544   /* the buffer of a table report */
 #define CATROVINDY_MONITOR_SIZE 401456 /* the buffer of a monitor report */
 
 /* The places of each array that is written. */

@@ -44,5 +44,9 @@ pub fn large() -> Vec<Rule> {
 /// is missing from 2^30.
 pub const IN_CONTROL: [u32; ZONES] = [2_898_884, 22_978_326, 145_927_014, 366_516_130, 366_516_130, 145_927_014, 22_978_326];
 
-/// Points that are rarely outside the inner zones: a chart that stays quiet for tens of thousands of points.
-pub const RARE: [u32; ZONES] = [0, 5_000_000, 5_000_000, 5_000_000, (1 << 30) - 15_000_000, 0, 0];
+/// Points that are rarely outside the inner zones, every zone with a weight of its own: a chart of three of nine that stays quiet for tens of
+/// thousands of points, so that its table has units in every row to the last.
+pub const RARE: [u32; ZONES] = [1_000_003, 4_000_037, 5_000_011, 6_000_101, 1_052_741_652, 2_000_003, 3_000_017];
+
+/// Points near the centre line on either side, every zone with a weight of its own: Western Electric's table has units in each of 3,000 rows.
+pub const CENTRED: [u32; ZONES] = [1_009, 20_011, 400_009, 536_490_754, 536_300_021, 500_009, 30_011];

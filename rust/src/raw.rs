@@ -81,7 +81,7 @@ extern "C" {
     /// The table program's lines for a text.
     ///
     /// # Safety
-    /// `text` are as many bytes as `length` says; `out` are 344,576 initialised bytes and `bytes` one number, which may be written. None
+    /// `text` are as many bytes as `length` says; `out` are 344,544 initialised bytes and `bytes` one number, which may be written. None
     /// that is written overlaps another.
     pub fn catrovindy_table_report(text: *const u8, length: usize, out: *mut u8, bytes: *mut u64) -> u64;
 

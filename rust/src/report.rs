@@ -5,7 +5,7 @@ use crate::{raw, Refusal};
 pub const MAX_TEXT: usize = 65_536;
 
 /// Room for the table program's lines at its largest horizon, 4,096.
-pub const TABLE_SIZE: usize = 344_576;
+pub const TABLE_SIZE: usize = 344_544;
 
 /// Room for the monitor program's lines for the longest text.
 pub const MONITOR_SIZE: usize = 401_456;

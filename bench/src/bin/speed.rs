@@ -4,7 +4,7 @@ use bench::inputs::Source;
 use bench::monitor_program::monitor_program;
 use bench::ring::{zone, Ring};
 use bench::table_program::table_program;
-use bench::{chart, duncan, large, lent, table, western_electric, Rule, IN_CONTROL, RARE, ZONES};
+use bench::{duncan, large, lent, table, western_electric, Rule, CENTRED, IN_CONTROL, RARE, ZONES};
 use catrovindy::{Monitor, MONITOR_SIZE, TABLE_SIZE};
 use std::hint::black_box;
 use std::time::Instant;
@@ -16,47 +16,35 @@ fn time(work: &mut impl FnMut()) -> f64 {
     start.elapsed().as_secs_f64()
 }
 
-/// The best of some runs, in seconds.
-fn best(runs: u32, mut work: impl FnMut()) -> f64 {
-    (0..runs).map(|_| time(&mut work)).fold(f64::INFINITY, f64::min)
-}
-
 /// The best rounds of two that take turns, in seconds.
 fn turns(rounds: u32, mut ours: impl FnMut(), mut theirs: impl FnMut()) -> (f64, f64) {
     (0..rounds).map(|_| (time(&mut ours), time(&mut theirs))).fold((f64::INFINITY, f64::INFINITY), |(a, b), (x, y)| (a.min(x), b.min(y)))
 }
 
-fn rows(name: &str, list: &[Rule], weights: &[u32; ZONES], horizon: u32) {
+/// Whole calls of the table on both sides, from the rules to the last row: exploring, grouping and rows.
+fn tables(name: &str, list: &[Rule], weights: &[u32; ZONES], horizon: u32) {
     let h = horizon as usize;
     let (mut p, mut s) = (vec![0u64; h], vec![0u64; h]);
     let (mut p2, mut s2) = (vec![0u64; h], vec![0u64; h]);
     let taken = lent::list(list);
-    let moves = chart::standings(list).expect("few enough");
+    let mut states = 0;
     let (ours, theirs) = turns(
         3,
         || {
             catrovindy::table(&taken, weights, horizon, &mut p, &mut s).expect("accepted");
         },
         || {
-            table::rows(&moves, weights, horizon, &mut p2, &mut s2);
+            states = table::table(list, weights, horizon, &mut p2, &mut s2).expect("accepted").states;
         },
     );
+    assert!(p == p2 && s == s2, "the same figures");
     println!(
-        "{name}: {} standings, {horizon} rows: proved {:.1} ms, 128-bit {:.1} ms, ratio {:.2}",
-        moves.len(),
+        "{name}: {states} standings, {horizon} rows, {} units in the last: proved {:.1} ms, 128-bit {:.1} ms, ratio {:.2}",
+        s[h - 1],
         ours * 1e3,
         theirs * 1e3,
         theirs / ours
     );
-}
-
-fn exploring(name: &str, list: &[Rule]) {
-    let (mut p, mut s) = ([0u64; 1], [0u64; 1]);
-    let taken = lent::list(list);
-    let ours = best(5, || {
-        catrovindy::table(&taken, &IN_CONTROL, 1, &mut p, &mut s).expect("accepted");
-    });
-    println!("{name}: exploring and one row: {:.2} ms", ours * 1e3);
 }
 
 /// The chart of the long series.
@@ -169,14 +157,14 @@ fn main() {
     points();
     println!("whole texts:");
     programs();
-    println!("in control:");
-    rows("Western Electric", &western_electric(), &IN_CONTROL, 65_535);
-    rows("Duncan", &duncan(), &IN_CONTROL, 65_535);
-    rows("3,9 with 3,8", &large(), &IN_CONTROL, 65_535);
-    println!("units in every row to the last:");
-    rows("Western Electric", &western_electric(), &IN_CONTROL, 3_000);
-    rows("3,9 with 3,8", &large(), &RARE, 65_535);
-    println!("exploring:");
-    exploring("Western Electric", &western_electric());
-    exploring("3,9 with 3,8", &large());
+    println!("tables with units in every row to the last:");
+    tables("Western Electric", &western_electric(), &CENTRED, 3_000);
+    tables("3,9 with 3,8", &large(), &RARE, 65_535);
+    println!("tables in control, where all units are rounded away before the last row:");
+    tables("Western Electric", &western_electric(), &IN_CONTROL, 65_535);
+    tables("Duncan", &duncan(), &IN_CONTROL, 65_535);
+    tables("3,9 with 3,8", &large(), &IN_CONTROL, 65_535);
+    println!("exploring and one row:");
+    tables("Western Electric", &western_electric(), &IN_CONTROL, 1);
+    tables("3,9 with 3,8", &large(), &IN_CONTROL, 1);
 }
