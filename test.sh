@@ -24,6 +24,6 @@ bash bench/differential.sh
 bash examples/run.sh | tail -n 1
 bash callers/run.sh
 cargo test --quiet --offline --manifest-path rust/Cargo.toml --target-dir target/rust-tests >/dev/null
-bash test-readme.sh
+bash scripts/test-readme.sh
 
 echo "$verdict"

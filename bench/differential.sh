@@ -2,7 +2,7 @@
 # Builds the static library of the proved crates and compares it with the second implementation on many inputs.
 set -euo pipefail
 cd "$(dirname "$0")"
-bash ../library.sh
+bash ../scripts/library.sh
 for test in differential plots steps texts; do
   cargo run --release --offline --quiet --bin "$test"
 done

@@ -1,7 +1,7 @@
 /*
  * Catrovindy: run-length tables and monitors for runs-rules control charts.
  *
- * Link with target/staticlib/libcapi.a, which `library.sh` writes. It needs nothing but memcpy and memset.
+ * Link with target/staticlib/libcapi.a, which `scripts/library.sh` writes. It needs nothing but memcpy and memset.
  *
  * Words. A point lies in one of seven zones by its distance from the centre. A rule k,m,Z holds where at least k of the last m points lie
  * in the zones of Z, the sum of 2^zone; where fewer than m points exist, all of them count. A chart signals where some rule holds, and a
@@ -27,6 +27,9 @@
 #ifdef __cplusplus
 extern "C" {
 #endif
+
+/* The version of this header; the Rust crate has the same. */
+#define CATROVINDY_VERSION "0.2.0"
 
 /* ---- Sizes and bounds */
 

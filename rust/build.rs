@@ -1,4 +1,4 @@
-//! Links the static library that `library.sh` writes.
+//! Links the static library that `scripts/library.sh` writes.
 fn main() {
     let here = std::env::var("CARGO_MANIFEST_DIR").unwrap_or_default();
     println!("cargo:rustc-link-search=native={here}/../target/staticlib");

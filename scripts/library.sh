@@ -1,7 +1,7 @@
 #!/usr/bin/env bash
 # Builds the proved library for callers in C and Rust, target/staticlib/libcapi.a, unless it is there already for these very crates.
 set -euo pipefail
-cd "$(dirname "$0")"
+cd "$(dirname "$0")/.."
 
 made=target/staticlib
 sum=$(find crates.txt crates -type f -print0 | LC_ALL=C sort -z | xargs -0 sha256sum | sha256sum)

@@ -3,7 +3,7 @@
 # marked sh is run, and a block marked text right behind it is what it must print. Not run are the package installs and the test command, and
 # without gnuplot the pictures.
 set -euo pipefail
-cd "$(dirname "$0")"
+cd "$(dirname "$0")/.."
 
 place=$(mktemp -d)
 trap 'rm -rf "$place"' EXIT
