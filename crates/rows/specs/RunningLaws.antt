@@ -102,9 +102,9 @@ module _ {m : List ℕ} {n : ℕ} {w : List ℕ} {h : ℕ} {ps ss : List ℕ} (p
   }
 
   module _ {k : ℕ} {us ps′ ss′ : List ℕ} {last whole fraction : ℕ} (s : Running m n w k ps ss us ps′ ss′ last whole fraction) where
-    left : sum n (at us) ≡ last
+    surviving : sum n (at us) ≡ last
     unfolding survival
-    left = sum-cong n (at us) (units (chain m n w) k) (s .units-now) ∙ sym (s .survival-last)
+    surviving = sum-cong n (at us) (units (chain m n w) k) (s .units-now) ∙ sym (s .survival-last)
 
     module _ {tg sh ct : List ℕ} (g : Grouped m n w n tg sh ct) where
       pub run-row : {hi lo : List ℕ} → length hi ≡ maxStates + 1 → length lo ≡ maxStates + 1 → CanRow tg sh ct us last n hi lo
@@ -112,11 +112,11 @@ module _ {m : List ℕ} {n : ℕ} {w : List ℕ} {h : ℕ} {ps ss : List ℕ} (p
         push = record {
           edges = edges-of g (p .weights);
           states = omega (arith, s .same, p .moves .most);
-          most = omega (arith, left, s .last-most);
+          most = omega (arith, surviving, s .last-most);
           his = omega (arith, p .moves .most);
           los = omega (arith, p .moves .most);
         };
-        all = sym left;
+        all = sym surviving;
       }
 
       module _ {us′ : List ℕ} {a b : ℕ} (r : Rowed tg sh ct n us us′ a b) where

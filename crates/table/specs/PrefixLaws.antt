@@ -1,12 +1,13 @@
 -- The table of n states goes by their own moves alone: what stands after them in the list of moves changes no figure.
-use mathlib.Core.Path.{_≡_, refl, sym, ap, _∙_}
+use mathlib.Core.Path.{_≡_, refl, ap, _∙_}
 use mathlib.Core.List.{List}
-use Prim.Native.Nat.{ℕ, zero, suc, _+_, _*_, _/_, _^_, _<_}
+use Prim.Native.Nat.{ℕ, zero, suc, _+_, _*_, _/_, _<_}
 use native.Mathlib.Nat.{mul-le-mul-left}
 use native.Mathlib.Omega.{arith}
 use lib.ListN.{getD}
 use lib.Dec.{eqb}
-use Rattle.runlength.specs.Sum.{sum, only, front}
+use Rattle.runlength.specs.Scale.{weightTotal}
+use Rattle.runlength.specs.Sum.{only, front}
 use Rattle.runlength.specs.SumLaws.{sum-cong}
 use Rattle.runlength.specs.TabLaws.{tab-cong}
 use Rattle.runlength.specs.Automaton.{after}
@@ -45,11 +46,11 @@ module _ (zones n : ℕ) (m m′ : List ℕ) (weight : ℕ → ℕ) (same : (k :
   units-same : (k t : ℕ) → units c k t ≡ units c′ k t
   unfolding units
   units-same zero t = refl
-  units-same (suc k) t = ap (λ x. x / 2 ^ 30) (flow-same (units c k) (units c′ k) (units-same k) t)
+  units-same (suc k) t = ap (λ x. x / weightTotal) (flow-same (units c k) (units c′ k) (units-same k) t)
 
   pub pmf-same : (k : ℕ) → pmf c (suc k) ≡ pmf c′ (suc k)
   unfolding pmf
-  pmf-same k = ap (λ x. x / 2 ^ 30) (signalled-same (units c k) (units c′ k) (units-same k))
+  pmf-same k = ap (λ x. x / weightTotal) (signalled-same (units c k) (units c′ k) (units-same k))
 
   pub survival-same : (k : ℕ) → survival c k ≡ survival c′ k
   unfolding survival
