@@ -1,7 +1,7 @@
 -- The cases of the monitor program's text, each as its return meets it.
 use Prim.Native.Nat.{ℕ, _+_, _*_, _≤_, _<_}
 use mathlib.Core.Path.{_≡_}
-use mathlib.Core.List.{List, [], _∷_}
+use mathlib.Core.List.{List}
 use native.Mathlib.Omega.{arith}
 use native.Mathlib.Nat.{add-zero}
 use lib.ListN.{length}
@@ -10,12 +10,13 @@ use borrow.Author.Tests.{le-leb, lt-leb}
 use Rattle.text.specs.declared.lines.Line.{Line}
 use Rattle.text.specs.declared.lines.Line.the-variants.{Chart}
 use Rattle.text.specs.Line.{lineAt}
-use Rattle.text.proofs.Else.{TagIn, not-chart}
+use Rattle.text.specs.Kind.{chart, NotOf}
+use Rattle.text.specs.KindLaws.{chart-passed}
 use Rattle.parse.specs.declared.rule_lines.RulesRead.{RulesRead}
 use Rattle.parse.specs.declared.point_lines.PointsRead.{PointsRead}
 use Rattle.parse.specs.declared.monitors.MonitorText.{MonitorText}
 use Rattle.rules.specs.Refusal.{notRefused, badLine, tooLong}
-use Rattle.text.specs.Size.{maxText}
+use Rattle.text.specs.Size.{maxText, minLine}
 use Rattle.parse.specs.Rules.{rulesAt, afterRules, rulesRead}
 use Rattle.parse.specs.RulesLaws.{rules-fit}
 use Rattle.parse.specs.Readings.{afterPoints, pointsRead}
@@ -27,9 +28,9 @@ pub too-long : (s : List ℕ) → maxText < length s → refusedMonitor tooLong 
 unfolding monitorText
 too-long s h = rw (lt-leb (length s) maxText h)
 
-pub no-chart : (s : List ℕ) → length s ≤ maxText → (x : Line) → x ≡ lineAt s 0 → TagIn (0 ∷ 1 ∷ 2 ∷ 4 ∷ 5 ∷ []) x → refusedMonitor (badLine 1) ≡ monitorText s
+pub other-first : (s : List ℕ) → length s ≤ maxText → (x : Line) → x ≡ lineAt s 0 → NotOf chart x → refusedMonitor (badLine 1) ≡ monitorText s
 unfolding monitorText
-no-chart s h x e t = rw (le-leb (length s) maxText h, ← e, not-chart x _ _ t)
+other-first s h x e n = rw (le-leb (length s) maxText h, ← e, chart-passed x _ _ n)
 
 pub refused-rule : (s : List ℕ) → length s ≤ maxText → {c : ℤ} {d at : ℕ} → lineAt s 0 ≡ Chart c d at
     → (r : RulesRead) → r ≡ rulesRead s at → (r .refusal .number ≡ 0 → ⊥) → refusedMonitor (r .refusal) ≡ monitorText s
@@ -44,7 +45,7 @@ refused-rule s short {c} {d} {at} first r read n =
 module _ (s : List ℕ) (short : length s ≤ maxText) {c : ℤ} {d at : ℕ} (first : lineAt s 0 ≡ Chart c d at)
     (r : RulesRead) (read : r ≡ rulesRead s at) (p : PointsRead) (found : p ≡ pointsRead s (r .next)) where
   -- the number of the first line behind the points fits
-  pub line-fits : 8 * (r .line + p .count) ≤ 2 * maxText + 16
+  pub line-fits : minLine * (r .line + p .count) ≤ 2 * maxText + minLine * 2
   unfolding rulesRead pointsRead
   line-fits = rw (found, read) (omega (arith, rules-fit (length s) s at, points-fit (length s) s (afterRules (length s) s at)))
 

@@ -8,4 +8,3 @@ pub mod Percentile
 pub mod Table
 pub mod TableLaws
 pub mod SameLaws
-pub mod Examples

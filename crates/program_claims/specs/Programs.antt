@@ -17,6 +17,7 @@ use Rattle.bracket.specs.declared.BracketAnswer.{BracketAnswer}
 use Rattle.text.specs.declared.lines.ZoneWeights.{ZoneWeights}
 use Rattle.text.specs.Format.{weightList}
 use Rattle.text.specs.Size.{maxText}
+use Rattle.text.specs.Word.{newlines}
 use Rattle.parse.specs.Rules.{ruleListOf}
 use Rattle.print.specs.Refused.{refusedLine}
 use Rattle.print.specs.Row.{standingsLine, headerLine, rowLine, arlLine}
@@ -25,7 +26,7 @@ use Rattle.print.specs.Table.{maxRows}
 use Rattle.report.specs.TableReport.{reportHorizon}
 use Rattle.report.specs.Points.{zonesOf, pointsBytes}
 use Rattle.claims.specs.Exact.{freeAnswers, exactSum, exactMean, reached, ContainsPercentile}
-use Rattle.program_claims.specs.Texts.{TableTextIs, TableStops, MonitorTextIs, MonitorStops, newlines}
+use Rattle.program_claims.specs.Texts.{TableTextIs, TableStops, MonitorTextIs, MonitorStops}
 
 -- x is one of the numbers
 pub data OneOf : List ℕ → ℕ → Type 0 where

@@ -7,7 +7,7 @@ use crate::word::Found;
 use crate::word::past;
 use rules::ZONES;
 ghost use mathlib.Core.Path.{_≡_};
-ghost use Rattle.text.specs.Line.{zoneWeights, weightsFrom, ruleFrom, horizonFrom, chartFrom, pointFrom, lineAt, beginsRule};
+ghost use Rattle.text.specs.Line.{zoneWeights, weightsFrom, ruleFrom, horizonFrom, chartFrom, pointFrom, lineAt, ruleLineAt};
 ghost use Rattle.text.specs.Format.{nextOf};
 
 // A weight for each zone, from zone 0 on. An enum can hold no array.
@@ -47,6 +47,18 @@ pub enum Line {
         next: usize,
     },
     Other,
+}
+
+// The line where a rule may come next: it does not begin with the word `rule`; or it gives a rule's three numbers; or it begins so and does not.
+pub enum RuleLine {
+    Absent,
+    Rule {
+        k: u32,
+        m: u32,
+        zones: u32,
+        next: usize,
+    },
+    Unreadable,
 }
 
 fn zone_weights(w: [u32; ZONES]) -> ZoneWeights
@@ -174,14 +186,17 @@ pub fn line_at(text: &[u8], at: usize) -> Line
     Line::Other
 }
 
-// Whether the line at `at` begins with the word `rule`.
-pub fn begins_rule(text: &[u8], at: usize) -> bool
-    ensures { λ t. ⌜ t ≡ beginsRule (now (text .entry)) at ⌝ }
+// The line at `at`, where a rule may come next.
+pub fn rule_line(text: &[u8], at: usize) -> RuleLine
+    ensures { λ r. ⌜ r ≡ ruleLineAt (now (text .entry)) at ⌝ }
 {
-    match past(text, at, b"rule") {
-        Found::At(_) => true,
-        Found::Absent => false,
-    }
+    let Found::At(p) = past(text, at, b"rule") else {
+        return RuleLine::Absent;
+    };
+    let Line::Rule { k, m, zones, next } = rule_from(text, p) else {
+        return RuleLine::Unreadable;
+    };
+    RuleLine::Rule { k, m, zones, next }
 }
 
 // The offset of the line behind a line, and 0 where it is none.
