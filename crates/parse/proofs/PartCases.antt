@@ -1,7 +1,7 @@
 -- What the parts of a text are, one by one, and the refusal of a line that begins as a rule line.
-use Prim.Native.Nat.{ℕ, zero, suc, _+_, _<_}
-use mathlib.Core.Path.{_≡_, refl}
-use mathlib.Core.List.{List, []}
+use Prim.Native.Nat.{ℕ, _<_}
+use mathlib.Core.Path.{_≡_, refl, _∙_}
+use mathlib.Core.List.{List}
 use lib.ListN.{length}
 use Rattle.text.specs.declared.lines.Line.{Line}
 use Rattle.text.specs.declared.lines.Line.the-variants.{Other}
@@ -13,8 +13,8 @@ use Rattle.text.specs.RuleLineLaws.{rule-outcome}
 use Rattle.parse.specs.declared.rule_lines.RulesRead.{RulesRead}
 use Rattle.parse.specs.declared.parts.Parts.{Parts}
 use Rattle.rules.specs.Refusal.{notRefused, badLine}
-use Rattle.parse.specs.Rules.{rulesAt, afterRules, rulesRead}
-use Rattle.parse.specs.Readings.{readingsAt, afterPoints, pointsRead}
+use Rattle.parse.specs.Rules.{afterRules, rulesRead}
+use Rattle.parse.specs.Readings.{pointsRead}
 use Rattle.parse.specs.Parts.{partsOf}
 
 module _ (s : List ℕ) (p : Parts) (e : p ≡ partsOf s) where
@@ -47,19 +47,12 @@ bad-rule s at r e n = go (ruleLineAt s end) refl
     end : ℕ
     end = afterRules (length s) s at
 
-    is : r .refusal ≡ onRuleLine (ruleLineAt s end) notRefused (λ k m zones next. notRefused) (badLine (2 + length (rulesAt (length s) s at)))
+    is : r .refusal ≡ onRuleLine (ruleLineAt s end) notRefused (λ k m zones next. notRefused) (badLine (r .line))
     is = rw e
-
-    line-is : r .line ≡ 2 + length (rulesAt (length s) s at)
-    line-is = rw e
 
     go : (x : RuleLine) → ruleLineAt s end ≡ x → BadRule s at r
     go RuleLine.Absent b = let z : r .refusal .number ≡ 0 = rw (is, b) in absurd (n z)
     go (RuleLine.Rule k m zones next) b = let z : r .refusal .number ≡ 0 = rw (is, b) in absurd (n z)
-    go RuleLine.Unreadable b = let o = rule-outcome s end RuleLine.Unreadable b in record { refusal = rw (line-is, is, b); line = o .0; within = o .1 }
-
--- where no line can be read there are no points
-pub no-points : (fuel : ℕ) (s : List ℕ) (at : ℕ) → lineAt s at ≡ Other → (readingsAt fuel s at ≡ []) × (afterPoints fuel s at ≡ at)
-unfolding readingsAt afterPoints
-no-points zero s at e = (refl, refl)
-no-points (suc fuel) s at e = (rw e, rw e)
+    go RuleLine.Unreadable b =
+        let o = rule-outcome s end RuleLine.Unreadable b in
+        record { refusal = is ∙ rw b; line = o .0; within = o .1 }

@@ -1,5 +1,5 @@
 -- The turns of the loop over the rule lines: what is read so far, and what is left with fuel enough, are the whole.
-use Prim.Native.Nat.{ℕ, zero, suc, _+_, _*_, _≤_}
+use Prim.Native.Nat.{ℕ, _+_, _*_, _≤_}
 use mathlib.Core.Path.{_≡_, refl, sym, ap, _∙_}
 use mathlib.Core.List.{List, [], _∷_, _++_, append-nil}
 use native.Mathlib.Omega.{arith}
@@ -15,11 +15,11 @@ use Rattle.text.specs.LineLaws.{read-ahead}
 use Rattle.text.specs.RuleLineLaws.{rule-outcome}
 use Rattle.text.specs.Size.{minLine}
 use Rattle.text.specs.Kind.{rule, kindOf, NotOf}
-use Rattle.text.specs.KindLaws.{other-kind, rule-passed}
+use Rattle.text.specs.KindLaws.{other-kind}
 use Rattle.parse.specs.declared.rule_lines.RulesRead.{RulesRead}
 use Rattle.rules.specs.Refusal.{notRefused, badLine}
 use Rattle.parse.specs.Rules.{rulesAt, afterRules, ruleListOf, pushed, rulesRead}
-use Rattle.parse.specs.RulesLaws.{pushed-list}
+use Rattle.parse.specs.RulesLaws.{pushed-list, one-rule, no-rules}
 
 -- the list l holds the rules from `at` on up to the line at i
 pub record RulesUpTo (s : List ℕ) (at : ℕ) (l : RuleList) (i : ℕ) : Type 0 where
@@ -50,36 +50,25 @@ unfolding ruleListOf
 rules-few u = rw (u .held) (u .fit)
 
 -- a rule line reaches ahead, and not over the end
-pub rule-ahead : (s : List ℕ) (i k m zones next : ℕ) → ruleLineAt s i ≡ RuleLine.Rule k m zones next → (i + minLine ≤ next) × (next ≤ length s)
+pub rule-ahead : (s : List ℕ) (i k m zones next : ℕ) → ruleLineAt s i ≡ RuleLine.Rule k m zones next
+    → (i + minLine ≤ next) × (next ≤ length s)
 rule-ahead s i k m zones next e = read-ahead s i (LineOfRule k m zones next) (rule-outcome s i _ e) tt
 
-pub rules-more : {s : List ℕ} {at : ℕ} {l : RuleList} {i : ℕ} (k m zones next : ℕ) → ruleLineAt s i ≡ RuleLine.Rule k m zones next
+pub rules-more : {s : List ℕ} {at : ℕ} {l : RuleList} {i : ℕ} (k m zones next : ℕ)
+    → ruleLineAt s i ≡ RuleLine.Rule k m zones next
     → RulesUpTo s at l i → RulesUpTo s at (pushed l (ruleOf k m zones)) next
-unfolding rulesAt afterRules
-rules-more {s} {at} {l} {i} k m zones next e u = go (u .fuel) (u .enough) (u .rest) (u .end)
-  where
-    r : Rule
-    r = ruleOf k m zones
-
-    a : (i + minLine ≤ next) × (next ≤ length s)
-    a = rule-ahead s i k m zones next e
-
-    line : lineAt s i ≡ LineOfRule k m zones next
-    line = rule-outcome s i _ e
-
-    n : length (u .rules ++ (r ∷ [])) ≡ length (u .rules) + 1
-    n = simp length-append
-
-    go : (f : ℕ) → length s ≤ i + f → u .rules ++ rulesAt f s i ≡ rulesAt (length s) s at → afterRules f s i ≡ afterRules (length s) s at
-        → RulesUpTo s at (pushed l (ruleOf k m zones)) next
-    go zero h p q = absurd (omega (arith, a))
-    go (suc f) h p q = record {
+rules-more {s} {at} {l} {i} k m zones next e u =
+    let r = ruleOf k m zones in
+    let a = rule-ahead s i k m zones next e in
+    let n = length-append (u .rules) (r ∷ []) in
+    let o = one-rule (u .fuel) s i k m zones next (rule-outcome s i _ e) (u .enough) in
+    record {
       rules = u .rules ++ (r ∷ []);
-      fuel = f;
-      enough = omega (arith, a);
+      fuel = o .0;
+      enough = o .1;
       held = ap (λ (x : RuleList). pushed x r) (u .held) ∙ pushed-list (u .rules) r;
-      rest = append-snoc (u .rules) r (rulesAt f s next) ∙ (rw line at p);
-      end = rw line at q;
+      rest = append-snoc (u .rules) r (rulesAt (o .0) s next) ∙ (rw (o .2) at (u .rest));
+      end = sym (o .3) ∙ u .end;
       few = omega (arith, a, n, u .few);
       fit = omega (arith, a, n, u .few);
     }
@@ -90,17 +79,13 @@ record AllRead (s : List ℕ) (at : ℕ) (l : RuleList) (i : ℕ) : Type 0 where
   count : l .len ≡ length (rulesAt (length s) s at)
   end : i ≡ afterRules (length s) s at
 
-rules-all : {s : List ℕ} {at : ℕ} {l : RuleList} {i : ℕ} → RulesUpTo s at l i → NotOf rule (lineAt s i) → AllRead s at l i
-unfolding rulesAt afterRules ruleListOf
-rules-all {s} {at} {l} {i} u none = go (u .fuel) (u .rest) (u .end)
-  where
-    whole : u .rules ≡ rulesAt (length s) s at → i ≡ afterRules (length s) s at → AllRead s at l i
-    whole a q = record { list = rw (← a) (u .held); count = rw (← a, u .held); end = q }
-
-    go : (f : ℕ) → u .rules ++ rulesAt f s i ≡ rulesAt (length s) s at → afterRules f s i ≡ afterRules (length s) s at → AllRead s at l i
-    go zero p q = whole (sym (append-nil (u .rules)) ∙ p) q
-    go (suc f) p q =
-        whole (sym (append-nil (u .rules)) ∙ (rw (rule-passed (lineAt s i) _ _ none) at p)) (rw (rule-passed (lineAt s i) _ _ none) at q)
+rules-all : {s : List ℕ} {at : ℕ} {l : RuleList} {i : ℕ} → RulesUpTo s at l i → NotOf rule (lineAt s i)
+    → AllRead s at l i
+unfolding ruleListOf
+rules-all {s} {at} {l} {i} u none =
+    let q = no-rules (u .fuel) s i none in
+    let a : u .rules ≡ rulesAt (length s) s at = sym (append-nil (u .rules)) ∙ (rw (q .0) at (u .rest)) in
+    record { list = rw (← a) (u .held); count = rw (← a, u .held); end = sym (q .1) ∙ u .end }
 
 -- it does not begin as one
 pub rules-done : {s : List ℕ} {at : ℕ} {l : RuleList} {i : ℕ} → RulesUpTo s at l i → ruleLineAt s i ≡ RuleLine.Absent
@@ -111,7 +96,8 @@ rules-done {s} {at} {l} {i} u b =
     rw (← h .end, b, ← h .list, ← h .count)
 
 -- it begins as one, and does not give three numbers
-pub rules-refused : {s : List ℕ} {at : ℕ} {l : RuleList} {i : ℕ} → RulesUpTo s at l i → ruleLineAt s i ≡ RuleLine.Unreadable
+pub rules-refused : {s : List ℕ} {at : ℕ} {l : RuleList} {i : ℕ} → RulesUpTo s at l i
+    → ruleLineAt s i ≡ RuleLine.Unreadable
     → _≡_ {A = RulesRead} (record { refusal = badLine (2 + l .len); list = l; next = i; line = 2 + l .len }) (rulesRead s at)
 unfolding rulesRead
 rules-refused {s} {at} {l} {i} u b =

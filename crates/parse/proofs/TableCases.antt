@@ -25,7 +25,8 @@ pub too-long : (s : List ℕ) → maxText < length s → refusedTable tooLong �
 unfolding tableText
 too-long s h = rw (lt-leb (length s) maxText h)
 
-pub other-first : (s : List ℕ) → length s ≤ maxText → (x : Line) → x ≡ lineAt s 0 → NotOf weights x → refusedTable (badLine 1) ≡ tableText s
+pub other-first : (s : List ℕ) → length s ≤ maxText → (x : Line) → x ≡ lineAt s 0 → NotOf weights x
+    → refusedTable (badLine 1) ≡ tableText s
 unfolding tableText
 other-first s h x e n = rw (le-leb (length s) maxText h, ← e, weights-passed x _ _ n)
 
@@ -43,7 +44,8 @@ module _ (s : List ℕ) (short : length s ≤ maxText) {w : ZoneWeights} {at : �
       let line : r .line ≡ 2 + length (rulesAt (length s) s at) = rw read in
       rw (b .refusal, line, le-leb (length s) maxText short, first, b .line)
 
-  pub other-last : (x : Line) → x ≡ lineAt s (r .next) → NotOf horizon x → refusedTable (badLine (r .line)) ≡ tableText s
+  pub other-last : (x : Line) → x ≡ lineAt s (r .next) → NotOf horizon x
+      → refusedTable (badLine (r .line)) ≡ tableText s
   unfolding rulesRead tableEnd tableText
   other-last x e n = rw (read, le-leb (length s) maxText short, first, ← (rw read at e), horizon-passed x _ _ n)
 

@@ -1,4 +1,4 @@
--- The `else` of a `let .. else` on a line: its tag is another kind's than the one asked for, so the line is none of it. Laws.
+-- The `else` of a `let .. else` on a line: its tag is another kind's, so it is no line of the kind asked for. Laws.
 use mathlib.Core.Path.{_≡_, refl}
 use types.Run.{OneOf, miss}
 use denote.Enum.Declared.{tagOf}
@@ -23,8 +23,8 @@ module _ (l : Line) where
   else-point t = point-or-none l (λ x next e. absurd (miss (tagsBut point) _ tt (rw e at t))) (λ n. n)
 
 -- a rule line that is neither absent nor a rule
-pub else-unreadable : (r : RuleLine) → OneOf (ruleTagsBut 0) (tagOf rule-type r) → OneOf (ruleTagsBut 1) (tagOf rule-type r)
-    → r ≡ RuleLine.Unreadable
+pub else-unreadable : (r : RuleLine) → OneOf (ruleTagsBut 0) (tagOf rule-type r)
+    → OneOf (ruleTagsBut 1) (tagOf rule-type r) → r ≡ RuleLine.Unreadable
 else-unreadable RuleLine.Absent t u = absurd (miss (ruleTagsBut 0) _ tt t)
 else-unreadable (RuleLine.Rule k m zones next) t u = absurd (miss (ruleTagsBut 1) _ tt u)
 else-unreadable RuleLine.Unreadable t u = refl

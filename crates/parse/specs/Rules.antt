@@ -38,7 +38,7 @@ ruleListOf rs = record { rules = slotsOf maxRules rs; len = length rs }
 unfoldable pub pushed : RuleList → Rule → RuleList
 pushed l r = record { rules = cond (leb maxRules (l .len)) (l .rules) (set (l .rules) (l .len) r); len = l .len + 1 }
 
--- all the rule lines from `at` on, the first of them being line 2. The line behind them is refused where it begins as a rule line
+-- all the rule lines from `at` on, the first of them being line 2; the line behind them is refused if it begins as one
 unfoldable pub rulesRead : List ℕ → ℕ → RulesRead
 rulesRead s at =
     let rules = rulesAt (length s) s at in

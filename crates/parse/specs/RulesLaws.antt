@@ -10,7 +10,8 @@ use borrow.Author.Tests.{leb-true, leb-false}
 use Rattle.rules.specs.declared.Rule.{Rule}
 use Rattle.rules.specs.Bounds.{maxRules}
 use Rattle.rules.specs.Check.{noRule, rulesFrom, activeRules}
-use Rattle.text.specs.declared.lines.Line.the-variants.{Rule as RuleLine}
+use Rattle.rules.specs.Ready.{ruleOf}
+use Rattle.text.specs.declared.lines.Line.the-variants.{Rule as LineOfRule}
 use Rattle.text.specs.Line.{lineAt}
 use Rattle.text.specs.LineLaws.{read-ahead, line-beyond}
 use Rattle.text.specs.Size.{minLine}
@@ -74,7 +75,7 @@ rules-span zero s at h = omega arith
 rules-span (suc fuel) s at h =
     rule-or-none (lineAt s at)
     (λ k m zones next e.
-    let a = read-ahead s at (RuleLine k m zones next) e tt in
+    let a = read-ahead s at (LineOfRule k m zones next) e tt in
     rw e (omega (arith, a, rules-span fuel s next (a .1))))
     (λ n. rw (rule-passed (lineAt s at) _ _ n) (omega arith))
 
@@ -87,14 +88,30 @@ rules-fit (suc fuel) s at = go (leb at (length s)) refl
     go true e = let h = rules-span (suc fuel) s at (leb-true at (length s) e) in omega (arith, h)
     go false e = let h = leb-false at (length s) e in rw (line-beyond s at (omega arith)) (omega arith)
 
--- ---- the fuel is enough: where the rules end there is no rule line
+-- ---- line by line
 
+-- a rule line, and fuel enough: one rule, and those behind it
+pub one-rule : (fuel : ℕ) (s : List ℕ) (at k m zones next : ℕ) → lineAt s at ≡ LineOfRule k m zones next → length s ≤ at + fuel
+    → (f : ℕ) × (length s ≤ next + f) × (rulesAt fuel s at ≡ ruleOf k m zones ∷ rulesAt f s next)
+    × (afterRules fuel s at ≡ afterRules f s next)
+unfolding rulesAt afterRules
+one-rule zero s at k m zones next e h = absurd (omega (arith, read-ahead s at (LineOfRule k m zones next) e tt))
+one-rule (suc f) s at k m zones next e h = (f, omega (arith, read-ahead s at (LineOfRule k m zones next) e tt), rw e, rw e)
+
+-- another line: no rules
+pub no-rules : (fuel : ℕ) (s : List ℕ) (at : ℕ) → NotOf rule (lineAt s at)
+    → (rulesAt fuel s at ≡ []) × (afterRules fuel s at ≡ at)
+unfolding rulesAt afterRules
+no-rules zero s at n = (refl, refl)
+no-rules (suc fuel) s at n = (rule-passed (lineAt s at) _ _ n, rule-passed (lineAt s at) _ _ n)
+
+-- the fuel is enough: where the rules end there is no rule line
 pub rules-end : (fuel : ℕ) (s : List ℕ) (at : ℕ) → length s ≤ at + fuel → NotOf rule (lineAt s (afterRules fuel s at))
 unfolding afterRules
 rules-end zero s at h = other-kind (ap kindOf (line-beyond s at (omega arith))) (λ q. omega arith)
 rules-end (suc fuel) s at h =
     rule-or-none (lineAt s at)
     (λ k m zones next e.
-    let a = read-ahead s at (RuleLine k m zones next) e tt in
+    let a = read-ahead s at (LineOfRule k m zones next) e tt in
     rw e (rules-end fuel s next (omega (arith, a))))
     (λ n. rw (rule-passed (lineAt s at) _ _ n) n)

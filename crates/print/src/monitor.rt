@@ -7,7 +7,7 @@ ghost use lib.ListN.{length};
 ghost use Rattle.text.specs.Wrote.{Wrote};
 ghost use Rattle.print.specs.Monitor.{pointLine, pointRoom, totalLine, totalRoom};
 
-// What a point's line says: its count since the last clearing, and the mask of the rules that hold. It is quiet where none does.
+// What a point's line says: its count since the last clearing, and the mask of the rules that hold: 0 is quiet.
 pub struct PointLine {
     pub count: u32,
     pub mask: u32,

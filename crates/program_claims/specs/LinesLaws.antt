@@ -15,12 +15,14 @@ use Rattle.text.specs.SpansLaws.{spans-then, spans-front, spans-back}
 use Rattle.text.specs.Word.{newlines}
 use Rattle.text.specs.NewlineLaws.{newlines-append, newlines-line}
 use Rattle.text.specs.Kind.{Kind, rule, point, none, kindOf, NotOf, kindNumber}
-use Rattle.text.specs.KindLaws.{rule-or-none, rule-passed, point-or-none, point-passed}
+use Rattle.text.specs.KindLaws.{rule-or-none, point-or-none}
 use Rattle.text.specs.Line.{lineAt}
 use Rattle.text.specs.LineLaws.{line-is, line-stands, line-ahead}
 use Rattle.text.specs.LineReadLaws.{line-read, kind-read}
 use Rattle.parse.specs.Rules.{rulesAt, afterRules}
+use Rattle.parse.specs.RulesLaws.{no-rules}
 use Rattle.parse.specs.Readings.{readingsAt, afterPoints}
+use Rattle.parse.specs.ReadingsLaws.{no-points}
 use Rattle.program_claims.specs.Texts.{ruleLine, ruleLines, RulesInRange}
 use Rattle.program_claims.specs.Texts.{pointLine, pointLines, PointsInRange, Begins}
 
@@ -79,23 +81,17 @@ pub rules-spans : (fuel : ℕ) (s : List ℕ) (at : ℕ)
 unfolding rulesAt afterRules ruleLines RulesInRange
 rules-spans zero s at = (spans-none s at, tt)
 rules-spans (suc fuel) s at =
-    let l = lineAt s at in
-    rule-or-none l
+    rule-or-none (lineAt s at)
     (λ k m zones next e.
     let i = line-stands s at (RuleLine k m zones next) e tt in
     let r = rules-spans fuel s next in
     rw e (spans-then (i .spans) (r .0), (i .range, r .1)))
-    (λ n. rw (rule-passed l _ _ n, rule-passed l _ _ n) (spans-none s at, tt))
-
-no-rules : (fuel : ℕ) (s : List ℕ) (at : ℕ) → NotOf rule (lineAt s at)
-    → (rulesAt fuel s at ≡ []) × (afterRules fuel s at ≡ at)
-unfolding rulesAt afterRules
-no-rules zero s at n = (refl, refl)
-no-rules (suc fuel) s at n = (rule-passed (lineAt s at) _ _ n, rule-passed (lineAt s at) _ _ n)
+    (λ n. let q = no-rules (suc fuel) s at n in rw (q .0, q .1) (spans-none s at, tt))
 
 -- those that stand there are read, up to a line that is none
 pub rules-read : (fuel : ℕ) {s : List ℕ} {at end : ℕ} (rs : List Rule) → length s ≤ at + fuel → RulesInRange rs
-    → Spans s at (ruleLines rs) end → NotOf rule (lineAt s end) → (rulesAt fuel s at ≡ rs) × (afterRules fuel s at ≡ end)
+    → Spans s at (ruleLines rs) end → NotOf rule (lineAt s end)
+    → (rulesAt fuel s at ≡ rs) × (afterRules fuel s at ≡ end)
 unfolding ruleLines RulesInRange rulesAt afterRules
 rules-read fuel {s} {at} {end} [] h i u n =
     let e : end ≡ at = omega (arith, u .end) in
@@ -128,22 +124,16 @@ pub points-spans : (fuel : ℕ) (s : List ℕ) (at : ℕ)
 unfolding readingsAt afterPoints pointLines PointsInRange
 points-spans zero s at = (spans-none s at, tt)
 points-spans (suc fuel) s at =
-    let l = lineAt s at in
-    point-or-none l
+    point-or-none (lineAt s at)
     (λ x next e.
     let i = line-stands s at (Point x next) e tt in
     let r = points-spans fuel s next in
     rw e (spans-then (i .spans) (r .0), (i .range, r .1)))
-    (λ n. rw (point-passed l _ _ n, point-passed l _ _ n) (spans-none s at, tt))
-
-no-points : (fuel : ℕ) (s : List ℕ) (at : ℕ) → NotOf point (lineAt s at)
-    → (readingsAt fuel s at ≡ []) × (afterPoints fuel s at ≡ at)
-unfolding readingsAt afterPoints
-no-points zero s at n = (refl, refl)
-no-points (suc fuel) s at n = (point-passed (lineAt s at) _ _ n, point-passed (lineAt s at) _ _ n)
+    (λ n. let q = no-points (suc fuel) s at n in rw (q .0, q .1) (spans-none s at, tt))
 
 pub points-read : (fuel : ℕ) {s : List ℕ} {at end : ℕ} (xs : List ℤ) → length s ≤ at + fuel → PointsInRange xs
-    → Spans s at (pointLines xs) end → NotOf point (lineAt s end) → (readingsAt fuel s at ≡ xs) × (afterPoints fuel s at ≡ end)
+    → Spans s at (pointLines xs) end → NotOf point (lineAt s end)
+    → (readingsAt fuel s at ≡ xs) × (afterPoints fuel s at ≡ end)
 unfolding pointLines PointsInRange readingsAt afterPoints
 points-read fuel {s} {at} {end} [] h i u n =
     let e : end ≡ at = omega (arith, u .end) in

@@ -1,6 +1,6 @@
 -- CLAIMS: the monitor program's text. It is accepted exactly where it is the lines of a chart, rules and readings, and it then gives these.
 use Prim.Native.Nat.{ℕ, _+_, _≤_, _<_}
-use mathlib.Core.Path.{_≡_, refl, sym, ap, _∙_}
+use mathlib.Core.Path.{_≡_, refl, ap, _∙_}
 use mathlib.Core.Bool.{Bool, true, false, cond}
 use mathlib.Core.List.{List, [], _∷_, _++_}
 use native.Mathlib.Omega.{arith}
@@ -80,8 +80,8 @@ module _ (s : List ℕ) (short : length s ≤ maxText) where
             (λ b. m .never (begins-read s end b)))
             (omega (arith, lines-all))
 
-  first-line : MonitorReading s (onChart (lineAt s 0) (λ c d at. monitorEnd s c d (rulesAt (length s) s at) (afterRules (length s) s at))
-      (refusedMonitor (badLine 1)))
+  first-line : MonitorReading s (onChart (lineAt s 0)
+      (λ c d at. monitorEnd s c d (rulesAt (length s) s at) (afterRules (length s) s at)) (refusedMonitor (badLine 1)))
   unfolding monitorEnd newlines
   first-line =
       chart-or-none (lineAt s 0)
@@ -90,8 +90,10 @@ module _ (s : List ℕ) (short : length s ≤ maxText) where
       let r = rules-spans (length s) s at in
       let from = afterRules (length s) s at in
       let p = points-spans (length s) s from in
-      rw e (behind-rules c d (rulesAt (length s) s at) from (i .range) (r .1) (spans-then (i .spans) (r .0))
-      (rules-end (length s) s at (omega arith)) (readingsAt (length s) s from) (afterPoints (length s) s from) (p .1) (p .0)
+      rw e
+      (behind-rules c d (rulesAt (length s) s at) from (i .range) (r .1) (spans-then (i .spans) (r .0))
+      (rules-end (length s) s at (omega arith))
+      (readingsAt (length s) s from) (afterPoints (length s) s from) (p .1) (p .0)
       (points-end (length s) s from (omega arith))))
       (λ n.
       rw (chart-passed (lineAt s 0) _ _ n)
@@ -103,8 +105,10 @@ unfolding monitorText
 monitor-reading s = go (leb (length s) maxText) refl
   where
     go : (b : Bool) → leb (length s) maxText ≡ b
-        → MonitorReading s (cond b (onChart (lineAt s 0) (λ c d at. monitorEnd s c d (rulesAt (length s) s at) (afterRules (length s) s at))
-        (refusedMonitor (badLine 1))) (refusedMonitor tooLong))
+        → MonitorReading s (cond b (onChart (lineAt s 0)
+        (λ c d at. monitorEnd s c d (rulesAt (length s) s at) (afterRules (length s) s at))
+        (refusedMonitor (badLine 1)))
+        (refusedMonitor tooLong))
     go true e = first-line s (leb-true _ _ e)
     go false e = too-long (leb-false _ _ e)
 

@@ -111,7 +111,8 @@ monitor-program s = go (monitorText s) (monitor-reading s) (monitorReadings s) (
   where
     go : (t : MonitorText) → MonitorReading s t → (ys : List ℤ)
         → ((c : ℤ) (d : ℕ) (rs : List Rule) (xs : List ℤ) → MonitorTextIs s c d rs xs → ys ≡ xs)
-        → MonitorProgram s (printedBytes (printedBy (monitorCheck t) (pointsBytes (readingAnswers (t .list) (t .centre) (t .sigma) ys))))
+        → MonitorProgram s (printedBytes (printedBy (monitorCheck t)
+        (pointsBytes (readingAnswers (t .list) (t .centre) (t .sigma) ys))))
     go t (too-long l) ys f = monitor-refuses 17 0 refl (monitor-too-long l)
     go t (stopped front rest place l e st p) ys f = monitor-refuses 16 place refl (monitor-bad-line front rest place l e st p)
     go t (read c d rs at xs i e) ys f = rw (f c d rs xs i) (by-check s c d rs xs i (text-few i) (checkOf (ruleListOf rs)) refl)

@@ -77,8 +77,8 @@ module _ (s : List ℕ) (short : length s ≤ maxText) where
         (λ h end e. rw e (at-horizon h end (line-stands s at (Horizon h end) e tt)))
         (λ n. rw (horizon-passed (lineAt s at) _ _ n) (stop r n))
 
-  first-line : TableReading s (onWeights (lineAt s 0) (λ w at. tableEnd s w (rulesAt (length s) s at) (afterRules (length s) s at))
-      (refusedTable (badLine 1)))
+  first-line : TableReading s (onWeights (lineAt s 0)
+      (λ w at. tableEnd s w (rulesAt (length s) s at) (afterRules (length s) s at)) (refusedTable (badLine 1)))
   unfolding newlines
   first-line =
       weights-or-none (lineAt s 0)
@@ -97,8 +97,9 @@ unfolding tableText
 table-reading s = go (leb (length s) maxText) refl
   where
     go : (b : Bool) → leb (length s) maxText ≡ b
-        → TableReading s (cond b (onWeights (lineAt s 0) (λ w at. tableEnd s w (rulesAt (length s) s at) (afterRules (length s) s at))
-        (refusedTable (badLine 1))) (refusedTable tooLong))
+        → TableReading s (cond b (onWeights (lineAt s 0)
+        (λ w at. tableEnd s w (rulesAt (length s) s at) (afterRules (length s) s at)) (refusedTable (badLine 1)))
+        (refusedTable tooLong))
     go true e = first-line s (leb-true _ _ e)
     go false e = too-long (leb-false _ _ e)
 

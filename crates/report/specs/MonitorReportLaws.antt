@@ -1,6 +1,6 @@
 -- What the monitor program prints, case by case; and that none of its points is refused.
 use Prim.Native.Nat.{ℕ, _*_, _≤_}
-use mathlib.Core.Path.{_≡_, refl, _∙_}
+use mathlib.Core.Path.{_≡_, refl}
 use mathlib.Core.Bool.{Bool, true, false}
 use mathlib.Core.List.{List, [], _∷_}
 use native.Mathlib.Omega.{arith}
@@ -99,4 +99,5 @@ module _ (s out : List ℕ) (t : MonitorText) (is : t ≡ monitorText s) where
         points-written {centre} c out′ r w =
             let xs : List ℤ = readingsAt (length s) s (t .points) in
             let answers = taken-one-by-one (t .list) ok (t .centre) (t .sigma) xs (omega (arith, points-few, text-short)) in
-            as-written {p = monitorPrinted s} out out′ r (rw (← is, eq-eqb (t .refusal .number) 0 read, ok, fits, answers)) (rw c at w)
+            as-written {p = monitorPrinted s} out out′ r
+            (rw (← is, eq-eqb (t .refusal .number) 0 read, ok, fits, answers)) (rw c at w)

@@ -17,13 +17,19 @@ use Rattle.parse.specs.Readings.{readingsAt}
 use Rattle.print.specs.Monitor.{pointRoom}
 use Rattle.report.specs.Points.{zonesOf, answerLines, signalsIn}
 
--- `points` point lines of s from `at` on are read, up to the line at i; m is the monitor after them; and their answers' lines stand in the buffer
--- up to `end`. What is left to read, with fuel enough, makes up the whole
-pub record PointsWritten (s : List ℕ) (at : ℕ) (rs : List Rule) (centre : ℤ) (sigma : ℕ) (before after : List ℕ) (i end points signals : ℕ) (m : Monitor) : Type 0 where
+-- the answers to readings on the chart with this centre and sigma, taken one by one
+abbrev pub answersTo : List Rule → ℤ → ℕ → Monitor → List ℤ → List Answer
+answersTo rs centre sigma m xs = takenAnswers rs m (zonesOf centre sigma xs)
+
+-- `points` point lines of s from `at` on are read, up to the line at i; m is the monitor after them; the lines of their
+-- answers stand in the buffer up to `end`; and with what is left to read, for which the fuel is enough, they are the whole
+pub record PointsWritten (s : List ℕ) (at : ℕ) (rs : List Rule) (centre : ℤ) (sigma : ℕ) (before after : List ℕ)
+    (i end points signals : ℕ) (m : Monitor) : Type 0 where
   pub fuel : ℕ
   pub enough : length s ≤ i + fuel
   pub answers : List Answer
-  pub whole : answers ++ takenAnswers rs m (zonesOf centre sigma (readingsAt fuel s i)) ≡ takenAnswers rs freshMonitor (zonesOf centre sigma (readingsAt (length s) s at))
+  pub whole : answers ++ answersTo rs centre sigma m (readingsAt fuel s i)
+      ≡ answersTo rs centre sigma freshMonitor (readingsAt (length s) s at)
   pub total : points + length (readingsAt fuel s i) ≡ length (readingsAt (length s) s at)
   pub point-count : points ≡ length answers
   pub signal-count : signals ≡ signalsIn answers

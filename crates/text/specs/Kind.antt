@@ -39,7 +39,7 @@ abbrev but : ℕ → List ℕ → List ℕ
 but n [] = []
 but n (m ∷ ms) = cond (eqb m n) (but n ms) (m ∷ but n ms)
 
--- the tags of all kinds but this one: the `else` of a `let .. else` that asks for it tells that the line's is one of them
+-- the tags of all kinds but this one: in the `else` of a `let .. else` that asks for it, the line's is one of them
 abbrev pub tagsBut : Kind → List ℕ
 tagsBut kind = but (kindNumber kind) (0 ∷ 1 ∷ 2 ∷ 3 ∷ 4 ∷ 5 ∷ [])
 

@@ -5,7 +5,8 @@ use lib.IntN.{ℤ}
 use Rattle.text.specs.declared.lines.ZoneWeights.{ZoneWeights}
 use Rattle.text.specs.declared.lines.Line.{Line}
 use Rattle.text.specs.declared.lines.Line.the-variants.{Weights, Rule, Horizon, Chart, Point, Other}
-use Rattle.text.specs.Kind.{Kind, weights, rule, horizon, chart, point, none, kind-discrete, kindOf, NotOf, kindNumber}
+use Rattle.text.specs.Kind.{Kind, weights, rule, horizon, chart, point, none, kind-discrete}
+use Rattle.text.specs.Kind.{kindOf, NotOf, kindNumber}
 use Rattle.text.specs.OnLine.{onWeights, onRule, onHorizon, onChart, onPoint}
 
 -- a line of a kind that has another number

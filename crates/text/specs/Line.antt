@@ -64,6 +64,6 @@ lineAt s at =
     (onFound (wordAt pointWord s at) (pointFrom s)
     Other))))
 
--- the line at an offset, where a rule may come next: none where it does not begin with `rule`; else the rule's three numbers, if it gives them
+-- the line at an offset, where a rule may come next: it does not begin with `rule`; else it gives three numbers or not
 unfoldable pub ruleLineAt : List ℕ → ℕ → RuleLine
 ruleLineAt s at = onFound (wordAt ruleWord s at) (λ p. onRule (ruleFrom s p) RuleLine.Rule Unreadable) RuleLine.Absent

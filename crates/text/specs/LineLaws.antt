@@ -1,5 +1,5 @@
 -- The law of reading a line: what is read stands in the text, byte by byte, with the next line right behind it.
-use Prim.Native.Nat.{ℕ, zero, suc, _+_, _≤_, _<_}
+use Prim.Native.Nat.{ℕ, zero, suc, _+_, _≤_}
 use mathlib.Core.Path.{_≡_, refl}
 use mathlib.Core.Logic.{_⊎_, inl, inr, ⊎-elim}
 use mathlib.Core.List.{List, [], _∷_, _++_}
@@ -25,7 +25,8 @@ use Rattle.text.specs.Number.{fieldAt, onNumber}
 use Rattle.text.specs.NumberLaws.{field-is}
 use Rattle.text.specs.Signed.{signedFieldAt, onSigned}
 use Rattle.text.specs.SignedLaws.{signed-field-is}
-use Rattle.text.specs.Line.{zoneWeights, fieldsFrom, weightsFrom, ruleFrom, horizonFrom, chartFrom, pointFrom, lineAt}
+use Rattle.text.specs.Line.{zoneWeights, fieldsFrom, weightsFrom, ruleFrom, horizonFrom, chartFrom}
+use Rattle.text.specs.Line.{pointFrom, lineAt}
 use Rattle.text.specs.Format.{field, signedField, fields, weightList, Unsigned, AllUnsigned, none, InSigned, InRange, bytesOf, nextOf, NotOther, LineIs}
 use Rattle.text.specs.FieldsLaws.{fields-snoc, unsigned-snoc, weight-list}
 
@@ -140,11 +141,13 @@ line-ahead l i =
     (omega (arith, i .spans .end), spans-within (bytesOf l) (omega arith) (i .spans))
 
 -- the same, of a line in hand
-pub read-ahead : (s : List ℕ) (at : ℕ) (l : Line) → lineAt s at ≡ l → NotOther l → (at + minLine ≤ nextOf l) × (nextOf l ≤ length s)
+pub read-ahead : (s : List ℕ) (at : ℕ) (l : Line) → lineAt s at ≡ l → NotOther l
+    → (at + minLine ≤ nextOf l) × (nextOf l ≤ length s)
 read-ahead s at l e n = line-ahead l (line-stands s at l e n)
 
 -- of a point line, whose fewest bytes are known
-pub point-ahead : (s : List ℕ) (at : ℕ) (x : ℤ) (next : ℕ) → lineAt s at ≡ Point x next → (at + minPoint ≤ next) × (next ≤ length s)
+pub point-ahead : (s : List ℕ) (at : ℕ) (x : ℤ) (next : ℕ) → lineAt s at ≡ Point x next
+    → (at + minPoint ≤ next) × (next ≤ length s)
 point-ahead s at x next e = read-ahead s at (Point x next) e tt
 
 -- there is no line at or beyond the end

@@ -19,7 +19,8 @@ use Rattle.text.specs.ReadBackLaws.{field-read}
 use Rattle.text.specs.SignedLaws.{signed-field-read}
 use Rattle.text.specs.Line.{zoneWeights, fieldsFrom, weightsFrom, ruleFrom, horizonFrom, chartFrom, pointFrom, lineAt}
 use Rattle.text.specs.Kind.{kindOf}
-use Rattle.text.specs.Format.{field, signedField, fields, weightList, AllUnsigned, none, one, bytesOf, InRange, LineIs}
+use Rattle.text.specs.Format.{field, signedField, fields, weightList, AllUnsigned, none, one}
+use Rattle.text.specs.Format.{bytesOf, InRange, LineIs}
 
 -- a separator is no digit
 ends : {s : List ℕ} {i b j : ℕ} {l : List ℕ} → Spans s i (b ∷ l) j → b < 48 → NoDigit (getD s i 0)
@@ -128,9 +129,9 @@ module _ {s : List ℕ} {at : ℕ} where
 
   -- whatever offset is put behind it
   pub kind-read : (l : Line) {end : ℕ} → InRange l → Spans s at (bytesOf l) end → kindOf (lineAt s at) ≡ kindOf l
-  kind-read (Weights w next) {end} r u = ap kindOf (line-read (Weights w end) (record { spans = u; range = r }))
-  kind-read (Rule k m zones next) {end} r u = ap kindOf (line-read (Rule k m zones end) (record { spans = u; range = r }))
-  kind-read (Horizon h next) {end} r u = ap kindOf (line-read (Horizon h end) (record { spans = u; range = r }))
-  kind-read (Chart centre sigma next) {end} r u = ap kindOf (line-read (Chart centre sigma end) (record { spans = u; range = r }))
-  kind-read (Point x next) {end} r u = ap kindOf (line-read (Point x end) (record { spans = u; range = r }))
+  kind-read (Weights w next) r u = ap kindOf (line-read (Weights w _) (record { spans = u; range = r }))
+  kind-read (Rule k m zones next) r u = ap kindOf (line-read (Rule k m zones _) (record { spans = u; range = r }))
+  kind-read (Horizon h next) r u = ap kindOf (line-read (Horizon h _) (record { spans = u; range = r }))
+  kind-read (Chart c d next) r u = ap kindOf (line-read (Chart c d _) (record { spans = u; range = r }))
+  kind-read (Point x next) r u = ap kindOf (line-read (Point x _) (record { spans = u; range = r }))
   kind-read Other r u = absurd r

@@ -63,6 +63,12 @@ newlines-line (Rule k m zones next) o =
     )
 newlines-line (Horizon h next) o = rw (newlines-append, newlines-append horizonWord, newlines-field)
 newlines-line (Chart centre sigma next) o =
-    rw (newlines-append, newlines-append (chartWord ++ signedField centre) (field sigma), newlines-append chartWord (signedField centre), newlines-signed-field, newlines-field)
+    rw (
+      newlines-append,
+      newlines-append (chartWord ++ signedField centre) (field sigma),
+      newlines-append chartWord (signedField centre),
+      newlines-signed-field,
+      newlines-field,
+    )
 newlines-line (Point x next) o = rw (newlines-append, newlines-append pointWord, newlines-signed-field)
 newlines-line Other o = absurd o

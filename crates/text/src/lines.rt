@@ -7,7 +7,8 @@ use crate::word::Found;
 use crate::word::past;
 use rules::ZONES;
 ghost use mathlib.Core.Path.{_≡_};
-ghost use Rattle.text.specs.Line.{zoneWeights, weightsFrom, ruleFrom, horizonFrom, chartFrom, pointFrom, lineAt, ruleLineAt};
+ghost use Rattle.text.specs.Line.{zoneWeights, weightsFrom, ruleFrom, horizonFrom, chartFrom, pointFrom};
+ghost use Rattle.text.specs.Line.{lineAt, ruleLineAt};
 ghost use Rattle.text.specs.Format.{nextOf};
 
 // A weight for each zone, from zone 0 on. An enum can hold no array.
@@ -49,7 +50,8 @@ pub enum Line {
     Other,
 }
 
-// The line where a rule may come next: it does not begin with the word `rule`; or it gives a rule's three numbers; or it begins so and does not.
+// The line where a rule may come next: one that does not begin with the word `rule`, one that gives a rule's three
+// numbers, or one that begins so and does not give them.
 pub enum RuleLine {
     Absent,
     Rule {

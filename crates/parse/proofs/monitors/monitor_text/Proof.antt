@@ -29,7 +29,8 @@ returns-2 : tie.Need-returns-2
 returns-2 c =
     let x = c .before .before in
     let s = x .before .before .before .args .text .now in
-    c .refused-monitor2 .ensures ∙ other-first s (omega arith) _ (first-is s _ (x .read-parts .ensures)) (else-chart _ (c .before .match .keys2))
+    let n = else-chart _ (c .before .match .keys2) in
+    c .refused-monitor2 .ensures ∙ other-first s (omega arith) _ (first-is s _ (x .read-parts .ensures)) n
 
 refused-monitor-requires-3 : tie.Need-refused-monitor-requires-3
 refused-monitor-requires-3 c κs = search needs

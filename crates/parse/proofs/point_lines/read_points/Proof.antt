@@ -26,7 +26,9 @@ enum-known-next : tie.Need-enum-known-next Inv-loop μ-loop
 enum-known-next c = search needs
 
 returns : tie.Need-returns Inv-loop μ-loop
-returns c = points-done (rw (← c .before .line-at .ensures) (else-point _ (c .match .keys2))) (c .before .before .loop .inv)
+returns c =
+    let l = c .before in
+    points-done (rw (← l .line-at .ensures) (else-point _ (c .match .keys2))) (l .before .loop .inv)
 
 add-count : tie.Need-add-count Inv-loop μ-loop
 add-count c = omega arith

@@ -48,7 +48,8 @@ returns-2 : tie.Need-returns-2 Inv-loop μ-loop
 returns-2 c =
     let k = c .before .before in
     let r = k .before .before in
-    rules-refused (r .before .loop .inv) (sym (r .rule-line .ensures) ∙ else-unreadable _ (k .before .match .keys2) (k .match2 .keys2))
+    let bad = else-unreadable _ (k .before .match .keys2) (k .match2 .keys2) in
+    rules-refused (r .before .loop .inv) (sym (r .rule-line .ensures) ∙ bad)
 
 new-requires : tie.Need-new-requires Inv-loop μ-loop
 new-requires c κs = search needs
@@ -67,7 +68,8 @@ loop-again : tie.Need-loop-again Inv-loop μ-loop
 loop-again c =
     let k = c .before .before .before in
     let r = k .before .before .before in
-    rw (c .push .ensures, c .before .new .ensures) (rules-more _ _ _ _ (sym (r .rule-line .ensures) ∙ k .found .given .1) (r .before .loop .inv))
+    let found = sym (r .rule-line .ensures) ∙ k .found .given .1 in
+    rw (c .push .ensures, c .before .new .ensures) (rules-more _ _ _ _ found (r .before .loop .inv))
 
 pub read-rules-spec : {M : Type 1} → statement M
 read-rules-spec =

@@ -38,7 +38,10 @@ same-length c = search needs
 
 returns : tie.Need-returns
 unfolding quietLine
-returns c = (wrote-quiet _ (omega arith) (search then), omega arith)
+returns c =
+    let b = c .before .before in
+    let n = b .before .before .before .before in
+    (wrote-quiet _ (omega arith) (then (n .put-named .ensures .0) (b .put-byte .ensures)), omega arith)
 
 slice-aggregate-put-named-2 : tie.Need-slice-aggregate-put-named-2
 slice-aggregate-put-named-2 c = search needs
@@ -63,7 +66,12 @@ same-length-2 c = search needs
 
 returns-2 : tie.Need-returns-2
 unfolding signalLine
-returns-2 c = (wrote-signal _ (λ z. omega arith) (search then), omega arith)
+returns-2 c =
+    let b = c .before .before in
+    let f = b .before .before .before .before in
+    let n = f .before .before .before .before .before in
+    let line = then (then (n .put-named2 .ensures .0) (f .put-field .ensures .0)) (b .put-byte2 .ensures) in
+    (wrote-signal _ (λ z. omega arith) line, omega arith)
 
 pub put-point-spec : {M : Type 1} → statement M
 put-point-spec =

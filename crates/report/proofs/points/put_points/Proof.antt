@@ -45,7 +45,8 @@ returns : tie.Need-returns Inv-loop μ-loop
 returns c =
     let t = c .before .before in
     let k = t .before .before .before in
-    written-done (k .before .loop .inv) (rw (← k .line-at .ensures) (else-point _ (t .before .before .match .keys2))) _ (t .put-total .ensures .0)
+    let n = else-point _ (t .before .before .match .keys2) in
+    written-done (k .before .loop .inv) (rw (← k .line-at .ensures) n) _ (t .put-total .ensures .0)
 
 zone-at-requires : tie.Need-zone-at-requires Inv-loop μ-loop
 zone-at-requires c κs = search needs
@@ -102,7 +103,10 @@ loop-again c =
     let x : toZ w32 (ofZ w32 (k .reading .given .0 .0)) ≡ k .reading .given .0 .0 = search needs in
     let centre : toZ w32 (ofZ w32 (chart .centre)) ≡ chart .centre = search needs in
     let zone = z .zone-at .ensures ∙ zone-given x centre (chart .sigma) in
-    written-more (k .before .before .before .loop .inv) (k .before .before .before .before .before .before .before .pre .0 .1) _ _ (sym (k .before .before .line-at .ensures) ∙ k .reading .given .1) _ zone _ (t .take .ensures) _ _
+    let l = k .before .before in
+    let found = sym (l .line-at .ensures) ∙ k .reading .given .1 in
+    let bounds = l .before .before .before .before .before .pre .0 .1 in
+    written-more (l .before .loop .inv) bounds _ _ found _ zone _ (t .take .ensures) _ _
     (w .put-point .ensures .0) (w .put-point .ensures .1) (c .before .one-signal .ensures)
 
 pub put-points-spec : {M : Type 1} → statement M

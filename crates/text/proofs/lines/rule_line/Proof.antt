@@ -1,6 +1,6 @@
 -- `text::rule_line` meets its contract: the word does not stand there, the numbers cannot be read, or they are read.
 use borrow.Author.Needs.{needs}
-use mathlib.Core.Path.{_≡_, sym, _∙_}
+use mathlib.Core.Path.{sym, _∙_}
 use types.Run.{OneOf, miss}
 use denote.Enum.Declared.{tagOf}
 use Rattle.text.specs.declared.lines.Line.{Line}
@@ -8,7 +8,6 @@ use Rattle.text.specs.declared.lines.Line.the-variants.{Rule}
 use Rattle.text.specs.declared.lines.RuleLine.{RuleLine}
 use Rattle.text.specs.Kind.{rule, NotOf, tagsBut}
 use Rattle.text.specs.KindLaws.{rule-or-none, rule-passed}
-use Rattle.text.specs.OnLine.{onRule}
 use Rattle.text.specs.Line.{ruleLineAt}
 use Rattle.text.proofs.On.{found, absent}
 use Rattle.text.proofs.lines.Line.{the-type}
@@ -55,7 +54,8 @@ returns-3 c =
     let k = c .before in
     let r = k .before .before in
     let p = r .before .before in
-    sym (found _ _ (sym (p .before .before .past .ensures) ∙ p .p .given .1) ∙ rw (← r .rule-from .ensures, k .k .given .1))
+    sym (found _ _ (sym (p .before .before .past .ensures) ∙ p .p .given .1)
+    ∙ rw (← r .rule-from .ensures, k .k .given .1))
 
 pub rule-line-spec : {M : Type 1} → statement M
 rule-line-spec =
