@@ -1,7 +1,7 @@
 -- The cases of the monitor program's text, each as its return meets it.
 use Prim.Native.Nat.{ℕ, _+_, _*_, _≤_, _<_}
-use mathlib.Core.Path.{_≡_}
-use mathlib.Core.List.{List, [], _∷_}
+use mathlib.Core.Path.{_≡_, ap}
+use mathlib.Core.List.{List}
 use native.Mathlib.Omega.{arith}
 use native.Mathlib.Nat.{add-zero}
 use lib.ListN.{length}
@@ -10,26 +10,28 @@ use borrow.Author.Tests.{le-leb, lt-leb}
 use Rattle.text.specs.declared.lines.Line.{Line}
 use Rattle.text.specs.declared.lines.Line.the-variants.{Chart}
 use Rattle.text.specs.Line.{lineAt}
-use Rattle.text.proofs.Else.{TagIn, not-chart}
+use Rattle.text.specs.Kind.{chart, kindOf, NotOf}
+use Rattle.text.specs.KindLaws.{other-kind, chart-passed}
 use Rattle.parse.specs.declared.rule_lines.RulesRead.{RulesRead}
 use Rattle.parse.specs.declared.point_lines.PointsRead.{PointsRead}
 use Rattle.parse.specs.declared.monitors.MonitorText.{MonitorText}
 use Rattle.rules.specs.Refusal.{notRefused, badLine, tooLong}
-use Rattle.text.specs.Size.{maxText}
+use Rattle.text.specs.Size.{maxText, minLine}
 use Rattle.parse.specs.Rules.{rulesAt, afterRules, rulesRead}
 use Rattle.parse.specs.RulesLaws.{rules-fit}
 use Rattle.parse.specs.Readings.{afterPoints, pointsRead}
-use Rattle.parse.specs.ReadingsLaws.{points-fit}
-use Rattle.parse.proofs.PartCases.{bad-rule, no-points}
+use Rattle.parse.specs.ReadingsLaws.{points-fit, no-points}
+use Rattle.parse.proofs.PartCases.{bad-rule}
 use Rattle.parse.specs.MonitorText.{refusedMonitor, readMonitor, monitorEnd, monitorText}
 
 pub too-long : (s : List ℕ) → maxText < length s → refusedMonitor tooLong ≡ monitorText s
 unfolding monitorText
 too-long s h = rw (lt-leb (length s) maxText h)
 
-pub no-chart : (s : List ℕ) → length s ≤ maxText → (x : Line) → x ≡ lineAt s 0 → TagIn (0 ∷ 1 ∷ 2 ∷ 4 ∷ 5 ∷ []) x → refusedMonitor (badLine 1) ≡ monitorText s
+pub other-first : (s : List ℕ) → length s ≤ maxText → (x : Line) → x ≡ lineAt s 0 → NotOf chart x
+    → refusedMonitor (badLine 1) ≡ monitorText s
 unfolding monitorText
-no-chart s h x e t = rw (le-leb (length s) maxText h, ← e, not-chart x _ _ t)
+other-first s h x e n = rw (le-leb (length s) maxText h, ← e, chart-passed x _ _ n)
 
 pub refused-rule : (s : List ℕ) → length s ≤ maxText → {c : ℤ} {d at : ℕ} → lineAt s 0 ≡ Chart c d at
     → (r : RulesRead) → r ≡ rulesRead s at → (r .refusal .number ≡ 0 → ⊥) → refusedMonitor (r .refusal) ≡ monitorText s
@@ -37,14 +39,14 @@ unfolding rulesRead monitorEnd monitorText
 refused-rule s short {c} {d} {at} first r read n =
     let b = bad-rule s at r read n in
     let line : r .line ≡ 2 + length (rulesAt (length s) s at) = rw read in
-    let none = no-points (length s) s _ (b .line) in
+    let none = no-points (length s) s _ (other-kind (ap kindOf (b .line)) (λ q. omega arith)) in
     rw (b .refusal, line, le-leb (length s) maxText short, first, none .0, none .1, lt-leb (length s) (afterRules (length s) s at) (b .within), add-zero)
 
 -- behind the chart, the rules and the points
 module _ (s : List ℕ) (short : length s ≤ maxText) {c : ℤ} {d at : ℕ} (first : lineAt s 0 ≡ Chart c d at)
     (r : RulesRead) (read : r ≡ rulesRead s at) (p : PointsRead) (found : p ≡ pointsRead s (r .next)) where
   -- the number of the first line behind the points fits
-  pub line-fits : 8 * (r .line + p .count) ≤ 2 * maxText + 16
+  pub line-fits : minLine * (r .line + p .count) ≤ 2 * maxText + minLine * 2
   unfolding rulesRead pointsRead
   line-fits = rw (found, read) (omega (arith, rules-fit (length s) s at, points-fit (length s) s (afterRules (length s) s at)))
 

@@ -1,24 +1,20 @@
 -- What the parts of a text are, one by one, and the refusal of a line that begins as a rule line.
-use Prim.Native.Nat.{ℕ, zero, suc, _+_, _<_}
-use mathlib.Core.Path.{_≡_, refl, sym, _∙_}
-use mathlib.Core.Bool.{Bool, true, false, cond}
-use mathlib.Core.List.{List, []}
-use native.Mathlib.Omega.{arith}
+use Prim.Native.Nat.{ℕ, _<_}
+use mathlib.Core.Path.{_≡_, refl, _∙_}
+use mathlib.Core.List.{List}
 use lib.ListN.{length}
-use lib.IntN.{ℤ}
-use Rattle.rules.specs.declared.refusal.Refusal.{Refusal}
 use Rattle.text.specs.declared.lines.Line.{Line}
-use Rattle.text.specs.declared.lines.Line.the-variants.{Rule, Other}
-use Rattle.text.specs.Line.{lineAt, beginsRule}
+use Rattle.text.specs.declared.lines.Line.the-variants.{Other}
+use Rattle.text.specs.declared.lines.RuleLine.{RuleLine}
+use Rattle.text.specs.Line.{lineAt, ruleLineAt}
 use Rattle.text.specs.Format.{nextOf}
-use Rattle.text.specs.OnLine.{onRule}
-use Rattle.text.specs.LineLaws.{rule-or-other, rule-within}
+use Rattle.text.specs.OnLine.{onRuleLine}
+use Rattle.text.specs.RuleLineLaws.{rule-outcome}
 use Rattle.parse.specs.declared.rule_lines.RulesRead.{RulesRead}
 use Rattle.parse.specs.declared.parts.Parts.{Parts}
 use Rattle.rules.specs.Refusal.{notRefused, badLine}
-use Rattle.parse.specs.Rules.{rulesAt, afterRules, rulesRead}
-use Rattle.parse.specs.RulesLaws.{rules-end}
-use Rattle.parse.specs.Readings.{readingsAt, afterPoints, pointsRead}
+use Rattle.parse.specs.Rules.{afterRules, rulesRead}
+use Rattle.parse.specs.Readings.{pointsRead}
 use Rattle.parse.specs.Parts.{partsOf}
 
 module _ (s : List ℕ) (p : Parts) (e : p ≡ partsOf s) where
@@ -46,28 +42,17 @@ pub record BadRule (s : List ℕ) (at : ℕ) (r : RulesRead) : Type 0 where
 
 pub bad-rule : (s : List ℕ) (at : ℕ) (r : RulesRead) → r ≡ rulesRead s at → (r .refusal .number ≡ 0 → ⊥) → BadRule s at r
 unfolding rulesRead
-bad-rule s at r e n = go (beginsRule s end) refl
+bad-rule s at r e n = go (ruleLineAt s end) refl
   where
     end : ℕ
     end = afterRules (length s) s at
 
-    is : r .refusal ≡ cond (beginsRule s end) (badLine (2 + length (rulesAt (length s) s at))) notRefused
+    is : r .refusal ≡ onRuleLine (ruleLineAt s end) notRefused (λ k m zones next. notRefused) (badLine (r .line))
     is = rw e
 
-    line-is : r .line ≡ 2 + length (rulesAt (length s) s at)
-    line-is = rw e
-
-    no-rule-line : (k m zones next : ℕ) → lineAt s end ≡ Rule k m zones next → ⊥
-    no-rule-line k m zones next q =
-        let z : _≡_ {A = ℕ} 1 0 = rw q at (rules-end {A = ℕ} (length s) s at (λ a b c d. 1) 0 (omega arith)) in
-        absurd (omega arith)
-
-    go : (t : Bool) → beginsRule s end ≡ t → BadRule s at r
-    go true b = record { refusal = rw (line-is, is, b); line = rule-or-other s end b no-rule-line; within = rule-within s end b }
-    go false b = let z : r .refusal .number ≡ 0 = rw (is, b) in absurd (n z)
-
--- where no line can be read there are no points
-pub no-points : (fuel : ℕ) (s : List ℕ) (at : ℕ) → lineAt s at ≡ Other → (readingsAt fuel s at ≡ []) × (afterPoints fuel s at ≡ at)
-unfolding readingsAt afterPoints
-no-points zero s at e = (refl, refl)
-no-points (suc fuel) s at e = (rw e, rw e)
+    go : (x : RuleLine) → ruleLineAt s end ≡ x → BadRule s at r
+    go RuleLine.Absent b = let z : r .refusal .number ≡ 0 = rw (is, b) in absurd (n z)
+    go (RuleLine.Rule k m zones next) b = let z : r .refusal .number ≡ 0 = rw (is, b) in absurd (n z)
+    go RuleLine.Unreadable b =
+        let o = rule-outcome s end RuleLine.Unreadable b in
+        record { refusal = is ∙ rw b; line = o .0; within = o .1 }

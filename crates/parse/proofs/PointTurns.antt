@@ -1,17 +1,18 @@
 -- The turns of the loop over the point lines: what is counted so far, and what is left with fuel enough, are the whole.
-use Prim.Native.Nat.{ℕ, zero, suc, _+_, _*_, _≤_}
-use mathlib.Core.Path.{_≡_, refl}
-use mathlib.Core.List.{List, [], _∷_}
+use Prim.Native.Nat.{ℕ, _+_, _*_, _≤_}
+use mathlib.Core.Path.{_≡_, refl, sym, ap, _∙_}
+use mathlib.Core.List.{List}
 use native.Mathlib.Omega.{arith}
 use lib.ListN.{length}
 use lib.IntN.{ℤ}
-use Rattle.text.specs.declared.lines.Line.{Line}
 use Rattle.text.specs.declared.lines.Line.the-variants.{Point}
 use Rattle.text.specs.Line.{lineAt}
-use Rattle.text.specs.LineLaws.{line-stands, line-ahead}
-use Rattle.text.proofs.Else.{TagIn, not-point}
+use Rattle.text.specs.LineLaws.{point-ahead}
+use Rattle.text.specs.Size.{minPoint}
+use Rattle.text.specs.Kind.{point, NotOf}
 use Rattle.parse.specs.declared.point_lines.PointsRead.{PointsRead}
 use Rattle.parse.specs.Readings.{readingsAt, afterPoints, pointsRead}
+use Rattle.parse.specs.ReadingsLaws.{one-point, no-points}
 
 -- n point lines stand from `at` on up to the line at i
 pub record PointsUpTo (s : List ℕ) (at n i : ℕ) : Type 0 where
@@ -19,48 +20,32 @@ pub record PointsUpTo (s : List ℕ) (at n i : ℕ) : Type 0 where
   pub enough : length s ≤ i + fuel
   pub rest : n + length (readingsAt fuel s i) ≡ length (readingsAt (length s) s at)
   pub end : afterPoints fuel s i ≡ afterPoints (length s) s at
-  pub few : 8 * n ≤ i
-  pub fit : 8 * n ≤ length s
+  pub few : minPoint * n ≤ i
+  pub fit : minPoint * n ≤ length s
 
 pub points-start : (s : List ℕ) (at : ℕ) → PointsUpTo s at 0 at
 points-start s at = record { fuel = length s; enough = omega arith; rest = omega arith; end = refl; few = omega arith; fit = omega arith }
 
--- a point line reaches ahead, and not over the end
-pub point-ahead : (s : List ℕ) (i : ℕ) (x : ℤ) (next : ℕ) → lineAt s i ≡ Point x next → (i + 8 ≤ next) × (next ≤ length s)
-point-ahead s i x next e = line-ahead (Point x next) (line-stands s i (Point x next) e tt)
-
-pub points-more : {s : List ℕ} {at n i : ℕ} (x : ℤ) (next : ℕ) → lineAt s i ≡ Point x next → PointsUpTo s at n i → PointsUpTo s at (n + 1) next
-unfolding readingsAt afterPoints
-points-more {s} {at} {n} {i} x next e u = go (u .fuel) (u .enough) (u .rest) (u .end)
-  where
-    a : (i + 8 ≤ next) × (next ≤ length s)
-    a = point-ahead s i x next e
-
-    go : (f : ℕ) → length s ≤ i + f → n + length (readingsAt f s i) ≡ length (readingsAt (length s) s at) → afterPoints f s i ≡ afterPoints (length s) s at → PointsUpTo s at (n + 1) next
-    go zero h p q = absurd (omega (arith, a))
-    go (suc f) h p q = record {
-      fuel = f;
-      enough = omega (arith, a);
-      rest = let p′ = rw e at p in omega (arith, p′);
-      end = rw e at q;
+pub points-more : {s : List ℕ} {at n i : ℕ} (x : ℤ) (next : ℕ) → lineAt s i ≡ Point x next → PointsUpTo s at n i
+    → PointsUpTo s at (n + 1) next
+points-more {s} {at} {n} {i} x next e u =
+    let a = point-ahead s i x next e in
+    let o = one-point (u .fuel) s i x next e (u .enough) in
+    record {
+      fuel = o .0;
+      enough = o .1;
+      rest = omega (arith, u .rest, ap length (o .2));
+      end = sym (o .3) ∙ u .end;
       few = omega (arith, a, u .few);
       fit = omega (arith, a, u .few);
     }
 
 -- the line at i is no point line
-pub points-done : {s : List ℕ} {at n i : ℕ} (x : Line) → x ≡ lineAt s i → TagIn (0 ∷ 1 ∷ 2 ∷ 3 ∷ 5 ∷ []) x
-    → PointsUpTo s at n i → _≡_ {A = PointsRead} (record { count = n; next = i }) (pointsRead s at)
-unfolding readingsAt afterPoints pointsRead
-points-done {s} {at} {n} {i} x e t u = go (u .fuel) (u .rest) (u .end)
-  where
-    go : (f : ℕ) → n + length (readingsAt f s i) ≡ length (readingsAt (length s) s at) → afterPoints f s i ≡ afterPoints (length s) s at
-        → _≡_ {A = PointsRead} (record { count = n; next = i }) (pointsRead s at)
-    go zero p q =
-        let a : n ≡ length (readingsAt (length s) s at) = omega (arith, p) in
-        let b : i ≡ afterPoints (length s) s at = q in
-        rw (← a, ← b)
-    go (suc f) p q =
-        let p′ = rw (← e, not-point x _ _ t) at p in
-        let a : n ≡ length (readingsAt (length s) s at) = omega (arith, p′) in
-        let b : i ≡ afterPoints (length s) s at = rw (← e, not-point x _ _ t) at q in
-        rw (← a, ← b)
+pub points-done : {s : List ℕ} {at n i : ℕ} → NotOf point (lineAt s i) → PointsUpTo s at n i
+    → _≡_ {A = PointsRead} (record { count = n; next = i }) (pointsRead s at)
+unfolding pointsRead
+points-done {s} {at} {n} {i} none u =
+    let q = no-points (u .fuel) s i none in
+    let count : n ≡ length (readingsAt (length s) s at) = omega (arith, u .rest, ap length (q .0)) in
+    let end : i ≡ afterPoints (length s) s at = sym (q .1) ∙ u .end in
+    rw (← count, ← end)

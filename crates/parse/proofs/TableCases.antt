@@ -1,7 +1,7 @@
 -- The cases of the table program's text, each as its return meets it.
 use Prim.Native.Nat.{ℕ, _+_, _*_, _≤_, _<_}
 use mathlib.Core.Path.{_≡_}
-use mathlib.Core.List.{List, [], _∷_}
+use mathlib.Core.List.{List}
 use native.Mathlib.Omega.{arith}
 use lib.ListN.{length}
 use borrow.Author.Tests.{le-leb, lt-leb}
@@ -11,10 +11,11 @@ use Rattle.text.specs.declared.lines.Line.{Line}
 use Rattle.text.specs.declared.lines.Line.the-variants.{Weights, Horizon}
 use Rattle.text.specs.Format.{weightList}
 use Rattle.text.specs.Line.{lineAt}
-use Rattle.text.proofs.Else.{TagIn, not-weights, not-horizon}
+use Rattle.text.specs.Kind.{weights, horizon, NotOf}
+use Rattle.text.specs.KindLaws.{weights-passed, horizon-passed}
 use Rattle.parse.specs.declared.rule_lines.RulesRead.{RulesRead}
 use Rattle.parse.specs.declared.tables.TableText.{TableText}
-use Rattle.text.specs.Size.{maxText}
+use Rattle.text.specs.Size.{maxText, minLine}
 use Rattle.parse.specs.Rules.{rulesAt, rulesRead}
 use Rattle.parse.specs.RulesLaws.{rules-fit}
 use Rattle.parse.proofs.PartCases.{bad-rule}
@@ -24,14 +25,15 @@ pub too-long : (s : List ℕ) → maxText < length s → refusedTable tooLong �
 unfolding tableText
 too-long s h = rw (lt-leb (length s) maxText h)
 
-pub no-weights : (s : List ℕ) → length s ≤ maxText → (x : Line) → x ≡ lineAt s 0 → TagIn (1 ∷ 2 ∷ 3 ∷ 4 ∷ 5 ∷ []) x → refusedTable (badLine 1) ≡ tableText s
+pub other-first : (s : List ℕ) → length s ≤ maxText → (x : Line) → x ≡ lineAt s 0 → NotOf weights x
+    → refusedTable (badLine 1) ≡ tableText s
 unfolding tableText
-no-weights s h x e t = rw (le-leb (length s) maxText h, ← e, not-weights x _ _ t)
+other-first s h x e n = rw (le-leb (length s) maxText h, ← e, weights-passed x _ _ n)
 
 -- behind the weights and the rules
 module _ (s : List ℕ) (short : length s ≤ maxText) {w : ZoneWeights} {at : ℕ} (first : lineAt s 0 ≡ Weights w at) (r : RulesRead) (read : r ≡ rulesRead s at) where
   -- the number of the line behind the next still fits
-  pub line-fits : 8 * r .line ≤ maxText + 16
+  pub line-fits : minLine * r .line ≤ maxText + minLine * 2
   unfolding rulesRead
   line-fits = rw read (omega (arith, rules-fit (length s) s at))
 
@@ -42,9 +44,10 @@ module _ (s : List ℕ) (short : length s ≤ maxText) {w : ZoneWeights} {at : �
       let line : r .line ≡ 2 + length (rulesAt (length s) s at) = rw read in
       rw (b .refusal, line, le-leb (length s) maxText short, first, b .line)
 
-  pub no-horizon : (x : Line) → x ≡ lineAt s (r .next) → TagIn (0 ∷ 1 ∷ 3 ∷ 4 ∷ 5 ∷ []) x → refusedTable (badLine (r .line)) ≡ tableText s
+  pub other-last : (x : Line) → x ≡ lineAt s (r .next) → NotOf horizon x
+      → refusedTable (badLine (r .line)) ≡ tableText s
   unfolding rulesRead tableEnd tableText
-  no-horizon x e t = rw (read, le-leb (length s) maxText short, first, ← (rw read at e), not-horizon x _ _ t)
+  other-last x e n = rw (read, le-leb (length s) maxText short, first, ← (rw read at e), horizon-passed x _ _ n)
 
   module _ {h end : ℕ} (last : lineAt s (r .next) ≡ Horizon h end) where
     pub goes-on : end < length s → refusedTable (badLine (r .line + 1)) ≡ tableText s

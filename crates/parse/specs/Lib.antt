@@ -1,3 +1,4 @@
+pub mod ElseLaws
 pub mod Rules
 pub mod RulesLaws
 pub mod TableText
@@ -5,5 +6,3 @@ pub mod Readings
 pub mod ReadingsLaws
 pub mod Parts
 pub mod MonitorText
-pub mod MonitorTextLaws
-pub mod Examples

@@ -3,7 +3,6 @@ use Prim.Native.Nat.{ℕ, zero, suc}
 use mathlib.Core.List.{List, [], _∷_}
 use lib.ListN.{length}
 use lib.IntN.{ℤ}
-use Rattle.text.specs.Format.{nextOf}
 use Rattle.text.specs.Line.{lineAt}
 use Rattle.text.specs.OnLine.{onPoint}
 use Rattle.parse.specs.declared.point_lines.PointsRead.{PointsRead}
@@ -21,8 +20,3 @@ afterPoints (suc fuel) s at = onPoint (lineAt s at) (λ x next. afterPoints fuel
 -- all the point lines from `at` on
 unfoldable pub pointsRead : List ℕ → ℕ → PointsRead
 pointsRead s at = record { count = length (readingsAt (length s) s at); next = afterPoints (length s) s at }
-
--- the offset of the line that is n lines behind the one at `at`
-unfoldable pub lineOffset : ℕ → List ℕ → ℕ → ℕ
-lineOffset zero s at = at
-lineOffset (suc n) s at = lineOffset n s (nextOf (lineAt s at))

@@ -9,8 +9,8 @@ use Rattle.rules.specs.declared.RuleList.{RuleList}
 use Rattle.rules.specs.Bounds.{maxRules}
 use Rattle.rules.specs.Check.{noRule}
 use Rattle.rules.specs.Ready.{ruleOf}
-use Rattle.text.specs.Line.{lineAt, beginsRule}
-use Rattle.text.specs.OnLine.{onRule}
+use Rattle.text.specs.Line.{lineAt, ruleLineAt}
+use Rattle.text.specs.OnLine.{onRule, onRuleLine}
 use Rattle.rules.specs.Refusal.{notRefused, badLine}
 use Rattle.parse.specs.declared.rule_lines.RulesRead.{RulesRead}
 
@@ -38,11 +38,14 @@ ruleListOf rs = record { rules = slotsOf maxRules rs; len = length rs }
 unfoldable pub pushed : RuleList → Rule → RuleList
 pushed l r = record { rules = cond (leb maxRules (l .len)) (l .rules) (set (l .rules) (l .len) r); len = l .len + 1 }
 
--- all the rule lines from `at` on, the first of them being line 2. The line behind them that begins as a rule line is refused
+-- all the rule lines from `at` on, the first of them being line 2; the line behind them is refused if it begins as one
 unfoldable pub rulesRead : List ℕ → ℕ → RulesRead
-rulesRead s at = record {
-  refusal = cond (beginsRule s (afterRules (length s) s at)) (badLine (2 + length (rulesAt (length s) s at))) notRefused;
-  list = ruleListOf (rulesAt (length s) s at);
-  next = afterRules (length s) s at;
-  line = 2 + length (rulesAt (length s) s at);
-}
+rulesRead s at =
+    let rules = rulesAt (length s) s at in
+    let end = afterRules (length s) s at in
+    record {
+      refusal = onRuleLine (ruleLineAt s end) notRefused (λ k m zones next. notRefused) (badLine (2 + length rules));
+      list = ruleListOf rules;
+      next = end;
+      line = 2 + length rules;
+    }

@@ -11,11 +11,12 @@ use Rattle.rules.specs.declared.Rule.{Rule}
 use Rattle.rules.specs.Bounds.{maxRules}
 use Rattle.rules.specs.Check.{noRule, rulesFrom, activeRules}
 use Rattle.rules.specs.Ready.{ruleOf}
-use Rattle.text.specs.declared.lines.Line.{Line}
-use Rattle.text.specs.declared.lines.Line.the-variants.{Weights, Rule as RuleLine, Horizon, Chart, Point, Other}
+use Rattle.text.specs.declared.lines.Line.the-variants.{Rule as LineOfRule}
 use Rattle.text.specs.Line.{lineAt}
-use Rattle.text.specs.OnLine.{onRule}
-use Rattle.text.specs.LineLaws.{line-stands, line-ahead, line-beyond}
+use Rattle.text.specs.LineLaws.{read-ahead, line-beyond}
+use Rattle.text.specs.Size.{minLine}
+use Rattle.text.specs.Kind.{rule, kindOf, NotOf}
+use Rattle.text.specs.KindLaws.{other-kind, rule-or-none, rule-passed}
 use Rattle.parse.specs.Rules.{rulesAt, afterRules, slotsOf, ruleListOf, pushed}
 
 -- a rule more goes into the next slot
@@ -66,48 +67,51 @@ pub active-rules : (rs : List Rule) → length rs ≤ maxRules → activeRules (
 unfolding ruleListOf
 active-rules rs h = from-slots (slotsOf maxRules rs) rs 0 (λ j l. let e : 0 + j ≡ j = omega arith in rw e (slots-get maxRules j rs (omega arith)))
 
--- ---- the rule lines fit into the text: each has 8 bytes or more
+-- ---- the rule lines fit into the text
 
-rules-span : (fuel : ℕ) (s : List ℕ) (at : ℕ) → at ≤ length s → at + 8 * length (rulesAt fuel s at) ≤ length s
+rules-span : (fuel : ℕ) (s : List ℕ) (at : ℕ) → at ≤ length s → at + minLine * length (rulesAt fuel s at) ≤ length s
 unfolding rulesAt
 rules-span zero s at h = omega arith
-rules-span (suc fuel) s at h = go (lineAt s at) refl (rules-span fuel s)
-  where
-    go : (x : Line) → lineAt s at ≡ x → ((n : ℕ) → n ≤ length s → n + 8 * length (rulesAt fuel s n) ≤ length s)
-        → at + 8 * length (onRule x (λ k m zones next. ruleOf k m zones ∷ rulesAt fuel s next) []) ≤ length s
-    go (RuleLine k m zones next) e ih =
-        let a = line-ahead (RuleLine k m zones next) (line-stands s at (RuleLine k m zones next) e tt) in
-        omega (arith, a, ih next (a .1))
-    go (Weights w next) e ih = omega arith
-    go (Horizon x next) e ih = omega arith
-    go (Chart x y next) e ih = omega arith
-    go (Point x next) e ih = omega arith
-    go Other e ih = omega arith
+rules-span (suc fuel) s at h =
+    rule-or-none (lineAt s at)
+    (λ k m zones next e.
+    let a = read-ahead s at (LineOfRule k m zones next) e tt in
+    rw e (omega (arith, a, rules-span fuel s next (a .1))))
+    (λ n. rw (rule-passed (lineAt s at) _ _ n) (omega arith))
 
-pub rules-fit : (fuel : ℕ) (s : List ℕ) (at : ℕ) → 8 * length (rulesAt fuel s at) ≤ length s
+pub rules-fit : (fuel : ℕ) (s : List ℕ) (at : ℕ) → minLine * length (rulesAt fuel s at) ≤ length s
 unfolding rulesAt
 rules-fit zero s at = omega arith
 rules-fit (suc fuel) s at = go (leb at (length s)) refl
   where
-    go : (t : Bool) → leb at (length s) ≡ t → 8 * length (rulesAt (suc fuel) s at) ≤ length s
+    go : (t : Bool) → leb at (length s) ≡ t → minLine * length (rulesAt (suc fuel) s at) ≤ length s
     go true e = let h = rules-span (suc fuel) s at (leb-true at (length s) e) in omega (arith, h)
     go false e = let h = leb-false at (length s) e in rw (line-beyond s at (omega arith)) (omega arith)
 
--- ---- the fuel is enough: where the rules end there is no rule line
+-- ---- line by line
 
-pub rules-end : {A : Type 0} (fuel : ℕ) (s : List ℕ) (at : ℕ) (f : ℕ → ℕ → ℕ → ℕ → A) (other : A) → length s ≤ at + fuel
-    → onRule (lineAt s (afterRules fuel s at)) f other ≡ other
+-- a rule line, and fuel enough: one rule, and those behind it
+pub one-rule : (fuel : ℕ) (s : List ℕ) (at k m zones next : ℕ) → lineAt s at ≡ LineOfRule k m zones next → length s ≤ at + fuel
+    → (f : ℕ) × (length s ≤ next + f) × (rulesAt fuel s at ≡ ruleOf k m zones ∷ rulesAt f s next)
+    × (afterRules fuel s at ≡ afterRules f s next)
+unfolding rulesAt afterRules
+one-rule zero s at k m zones next e h = absurd (omega (arith, read-ahead s at (LineOfRule k m zones next) e tt))
+one-rule (suc f) s at k m zones next e h = (f, omega (arith, read-ahead s at (LineOfRule k m zones next) e tt), rw e, rw e)
+
+-- another line: no rules
+pub no-rules : (fuel : ℕ) (s : List ℕ) (at : ℕ) → NotOf rule (lineAt s at)
+    → (rulesAt fuel s at ≡ []) × (afterRules fuel s at ≡ at)
+unfolding rulesAt afterRules
+no-rules zero s at n = (refl, refl)
+no-rules (suc fuel) s at n = (rule-passed (lineAt s at) _ _ n, rule-passed (lineAt s at) _ _ n)
+
+-- the fuel is enough: where the rules end there is no rule line
+pub rules-end : (fuel : ℕ) (s : List ℕ) (at : ℕ) → length s ≤ at + fuel → NotOf rule (lineAt s (afterRules fuel s at))
 unfolding afterRules
-rules-end zero s at f other h = rw (line-beyond s at (omega arith))
-rules-end (suc fuel) s at f other h = go (lineAt s at) refl (λ n. rules-end fuel s n f other)
-  where
-    go : (x : Line) → lineAt s at ≡ x → ((n : ℕ) → length s ≤ n + fuel → onRule (lineAt s (afterRules fuel s n)) f other ≡ other)
-        → onRule (lineAt s (onRule x (λ k m zones next. afterRules fuel s next) at)) f other ≡ other
-    go (RuleLine k m zones next) e ih =
-        let a = line-ahead (RuleLine k m zones next) (line-stands s at (RuleLine k m zones next) e tt) in
-        ih next (omega (arith, a))
-    go (Weights w next) e ih = rw e
-    go (Horizon x next) e ih = rw e
-    go (Chart x y next) e ih = rw e
-    go (Point x next) e ih = rw e
-    go Other e ih = rw e
+rules-end zero s at h = other-kind (ap kindOf (line-beyond s at (omega arith))) (λ q. omega arith)
+rules-end (suc fuel) s at h =
+    rule-or-none (lineAt s at)
+    (λ k m zones next e.
+    let a = read-ahead s at (LineOfRule k m zones next) e tt in
+    rw e (rules-end fuel s next (omega (arith, a))))
+    (λ n. rw (rule-passed (lineAt s at) _ _ n) n)

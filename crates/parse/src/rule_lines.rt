@@ -2,10 +2,9 @@
 use rules::Refusal;
 use rules::Rule;
 use rules::RuleList;
-use text::Line;
 use text::Reader;
-use text::begins_rule;
-use text::line_at;
+use text::RuleLine;
+use text::rule_line;
 ghost use mathlib.Core.Path.{_≡_};
 ghost use Prim.Native.Nat.{_≤_};
 ghost use mathlib.Core.List.{[]};
@@ -66,8 +65,20 @@ fn read_rules(text: &[u8], at: usize) -> RulesRead
 {
     let mut list = no_rules();
     let mut i = at;
-    while begins_rule(text, i) {
-        let Line::Rule { k, m, zones, next } = line_at(text, i) else {
+    loop {
+        let found = rule_line(text, i);
+        if let RuleLine::Absent = found {
+            return RulesRead {
+                refusal: Refusal {
+                    number: 0,
+                    place: 0,
+                },
+                list,
+                next: i,
+                line: SECOND + list.len,
+            };
+        }
+        let RuleLine::Rule { k, m, zones, next } = found else {
             return RulesRead {
                 refusal: Refusal {
                     number: Refusal::LINE,
@@ -80,15 +91,6 @@ fn read_rules(text: &[u8], at: usize) -> RulesRead
         };
         list = push(list, Rule::new(k, m, zones));
         i = next;
-    }
-    RulesRead {
-        refusal: Refusal {
-            number: 0,
-            place: 0,
-        },
-        list,
-        next: i,
-        line: SECOND + list.len,
     }
 }
 

@@ -1,14 +1,10 @@
--- Fields of a line: a number behind a comma, and the room for one. Definitions.
+-- The room for a field of a line. Definition; the field itself is the text format's.
 use Prim.Native.Nat.{ℕ, _+_}
-use mathlib.Core.List.{List, _++_}
 use lib.ListN.{length}
-use Rattle.text.specs.Decimal.{decimal, numberRoom}
+use Rattle.text.specs.Decimal.{numberRoom}
 use Rattle.text.specs.Word.{comma}
+unfoldable pub use Rattle.text.specs.Format.{field}
 
--- a comma and n
-unfoldable pub field : ℕ → List ℕ
-field n = comma ++ decimal n
-
--- the most bytes that it has
+-- the most bytes that a comma and a number have
 abbrev pub fieldRoom : ℕ
 fieldRoom = length comma + numberRoom

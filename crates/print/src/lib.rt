@@ -8,8 +8,8 @@ mod rooms;
 mod rows;
 mod tables;
 
-pub use monitor::put_quiet;
-pub use monitor::put_signal;
+pub use monitor::PointLine;
+pub use monitor::put_point;
 pub use monitor::put_total;
 pub use refused::put_refused;
 pub use rooms::MAX_ROWS;

@@ -5,26 +5,26 @@ use text::put_byte;
 ghost use Prim.Native.Nat.{_+_, _≤_};
 ghost use lib.ListN.{length};
 ghost use Rattle.text.specs.Wrote.{Wrote};
-ghost use Rattle.print.specs.Monitor.{quietLine, quietRoom, signalLine, signalRoom, totalLine, totalRoom};
+ghost use Rattle.print.specs.Monitor.{pointLine, pointRoom, totalLine, totalRoom};
 
-// The line `quiet,n`.
-pub fn put_quiet(out: &mut [u8], at: usize, n: u32) -> usize
-    requires { ⌜ at + quietRoom ≤ length (now out) ⌝ }
-    ensures { λ r. ⌜ Wrote (now (out .entry)) at (now (out .exit)) r (quietLine n) ⌝ }
-    ensures { λ r. ⌜ r ≤ at + quietRoom ⌝ }
-{
-    let e = put_named(out, at, b"quiet", n as u64);
-    put_byte(out, e, b'\n')
+// What a point's line says: its count since the last clearing, and the mask of the rules that hold: 0 is quiet.
+pub struct PointLine {
+    pub count: u32,
+    pub mask: u32,
 }
 
-// The line `signal,n,mask`.
-pub fn put_signal(out: &mut [u8], at: usize, n: u32, mask: u32) -> usize
-    requires { ⌜ at + signalRoom ≤ length (now out) ⌝ }
-    ensures { λ r. ⌜ Wrote (now (out .entry)) at (now (out .exit)) r (signalLine n mask) ⌝ }
-    ensures { λ r. ⌜ r ≤ at + signalRoom ⌝ }
+// The line `quiet,n` or `signal,n,mask`.
+pub fn put_point(out: &mut [u8], at: usize, line: PointLine) -> usize
+    requires { ⌜ at + pointRoom ≤ length (now out) ⌝ }
+    ensures { λ r. ⌜ Wrote (now (out .entry)) at (now (out .exit)) r (pointLine line) ⌝ }
+    ensures { λ r. ⌜ r ≤ at + pointRoom ⌝ }
 {
-    let a = put_named(out, at, b"signal", n as u64);
-    let b = put_field(out, a, mask as u64);
+    if line.mask == 0 {
+        let a = put_named(out, at, b"quiet", line.count as u64);
+        return put_byte(out, a, b'\n');
+    }
+    let a = put_named(out, at, b"signal", line.count as u64);
+    let b = put_field(out, a, line.mask as u64);
     put_byte(out, b, b'\n')
 }
 

@@ -1,6 +1,5 @@
 -- What the programs print, from bytes to bytes: definitions, laws, claims.
 pub mod Texts
-pub mod NewlineLaws
 pub mod LinesLaws
 pub mod TableBytes
 pub mod MonitorBytes

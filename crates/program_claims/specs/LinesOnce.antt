@@ -82,7 +82,7 @@ module _ {xs ys : List ℕ} where
 
   -- the four numbers of a row
   pub row-once : (n a b c n′ a′ b′ c′ : ℕ) → rowLine n a b c ++ xs ≡ rowLine n′ a′ b′ c′ ++ ys → (n ≡ n′) × (a ≡ a′) × (b ≡ b′) × (c ≡ c′) × (xs ≡ ys)
-  unfolding fields
+  unfolding fields field
   row-once n a b c n′ a′ b′ c′ e =
       let f = sym (row-shape n a b c xs) ∙ e ∙ row-shape n′ a′ b′ c′ ys in
       let k = number-once n n′ comma comma f in

@@ -14,7 +14,7 @@ use Rattle.rules.specs.declared.refusal.Refusal.{Refusal}
 use Rattle.rules.specs.declared.Checked.{Checked}
 use Rattle.rules.specs.declared.Checked.the-variants.{Accepted, Refused}
 use Rattle.rules.specs.Refusal.{badSigma}
-use Rattle.rules.specs.Check.{activeRules, checkOf, within}
+use Rattle.rules.specs.Check.{within, orElse, activeRules, checkOf}
 use Rattle.rules.specs.CheckLaws.{between}
 use Rattle.monitor.specs.Zone.{minSigma, maxSigma}
 use Rattle.rules.specs.Bounds.{maxNumber}
@@ -22,14 +22,15 @@ use Rattle.monitor.specs.Step.{freshMonitor}
 use Rattle.monitor.specs.ReferenceChart.{quiet, signal, rowMask, charted}
 use Rattle.monitor.specs.Calls.{monitorAnswers, EachAnswer}
 use Rattle.monitor.specs.Agreement.{agreement}
+use Rattle.table.specs.Table.{unless}
 use Rattle.parse.specs.declared.monitors.MonitorText.{MonitorText}
 use Rattle.parse.specs.Rules.{ruleListOf}
 use Rattle.parse.specs.RulesLaws.{active-rules}
 use Rattle.parse.specs.ReadingsLaws.{points-fit}
 use Rattle.parse.specs.MonitorText.{refusedMonitor, readMonitor, monitorText, monitorReadings}
-use Rattle.report.specs.Printed.{lines, refusedBy, printedBytes}
+use Rattle.report.specs.Printed.{printedBy, printedBytes}
 use Rattle.report.specs.Points.{zonesOf, pointsBytes}
-use Rattle.report.specs.MonitorReport.{readingAnswers, checkedBy, chartPrinted, monitorPrinted}
+use Rattle.report.specs.MonitorReport.{readingAnswers, monitorCheck, monitorPrinted}
 use Rattle.report.specs.MonitorReportLaws.{zones-exist, zones-length}
 use Rattle.claims.specs.Exact.{freeAnswers}
 use Rattle.claims.specs.MonitorLaws.{monitor-free}
@@ -78,16 +79,20 @@ outside low high x e i =
     omega arith
 
 module _ (s : List ℕ) (centre : ℤ) (sigma : ℕ) (rs : List Rule) (xs : List ℤ) (is : MonitorTextIs s centre sigma rs xs) (few : length xs ≤ maxNumber) where
+  -- the lines, if nothing is refused
+  shown : List ℕ
+  shown = pointsBytes (readingAnswers (ruleListOf rs) centre sigma xs)
+
   by-sigma : checkOf (ruleListOf rs) ≡ Accepted → (t : Bool) → within minSigma maxSigma sigma ≡ t
-      → MonitorProgram s (printedBytes (cond t (lines (pointsBytes (readingAnswers (ruleListOf rs) centre sigma xs))) (refusedBy badSigma)))
-  unfolding printedBytes
+      → MonitorProgram s (printedBytes (printedBy (unless t badSigma) shown))
+  unfolding printedBytes shown
   by-sigma ok true e =
       monitor-prints centre sigma rs xs is ok (between minSigma maxSigma sigma e)
       (same-points (active-rules rs (rules-few rs ok)) (points-printed (ruleListOf rs) ok centre sigma xs few))
   by-sigma ok false e = monitor-refuses 1 0 refl (bad-sigma centre sigma rs xs is ok (outside minSigma maxSigma sigma e))
 
   by-check : (c : Checked) → checkOf (ruleListOf rs) ≡ c
-      → MonitorProgram s (printedBytes (checkedBy c (cond (within minSigma maxSigma sigma) (lines (pointsBytes (readingAnswers (ruleListOf rs) centre sigma xs))) (refusedBy badSigma))))
+      → MonitorProgram s (printedBytes (printedBy (orElse c (unless (within minSigma maxSigma sigma) badSigma)) shown))
   unfolding printedBytes
   by-check Accepted e = by-sigma e (within minSigma maxSigma sigma) refl
   by-check (Refused x) e = monitor-refuses (x .number) (x .place) refl (bad-rules centre sigma rs xs x is e (list-number (ruleListOf rs) x e))
@@ -101,12 +106,13 @@ text-few {s} {centre} {sigma} {rs} {xs} t =
 -- For every text: one refusal line, with the number and the place of a reason that holds of the text; or the text is the lines of a chart,
 -- rules and readings, and what is printed is exactly the lines of the plain chart on the readings' zones, and the total.
 pub monitor-program : (s : List ℕ) → MonitorProgram s (printedBytes (monitorPrinted s))
-unfolding monitorPrinted printedBytes refusedMonitor readMonitor
+unfolding monitorPrinted printedBytes refusedMonitor readMonitor shown
 monitor-program s = go (monitorText s) (monitor-reading s) (monitorReadings s) (λ c d rs xs i. monitor-read i .2)
   where
     go : (t : MonitorText) → MonitorReading s t → (ys : List ℤ)
         → ((c : ℤ) (d : ℕ) (rs : List Rule) (xs : List ℤ) → MonitorTextIs s c d rs xs → ys ≡ xs)
-        → MonitorProgram s (printedBytes (cond (eqb (t .refusal .number) 0) (chartPrinted (t .list) (t .centre) (t .sigma) ys) (refusedBy (t .refusal))))
+        → MonitorProgram s (printedBytes (printedBy (monitorCheck t)
+        (pointsBytes (readingAnswers (t .list) (t .centre) (t .sigma) ys))))
     go t (too-long l) ys f = monitor-refuses 17 0 refl (monitor-too-long l)
     go t (stopped front rest place l e st p) ys f = monitor-refuses 16 place refl (monitor-bad-line front rest place l e st p)
     go t (read c d rs at xs i e) ys f = rw (f c d rs xs i) (by-check s c d rs xs i (text-few i) (checkOf (ruleListOf rs)) refl)

@@ -12,7 +12,7 @@ use borrow.Author.Tests.{le-leb, ltb-true, ltb-false, eqb-false}
 use Rattle.rules.specs.Check.{within}
 use Rattle.text.specs.Decimal.{digitByte, decimal}
 use Rattle.text.specs.DecimalLaws.{decimal-one, decimal-more}
-use Rattle.text.specs.Format.{fields}
+use Rattle.text.specs.Format.{field, fields}
 
 -- the number that the digits at the front give, behind those that gave v; and what is behind them
 unfoldable valueFrom : ℕ → List ℕ → ℕ
@@ -110,13 +110,13 @@ behind-once xs {ys} {zs} e = sym (drop-append-seam xs ys) ∙ ap (drop (length x
 
 -- the fields up to an LF
 fields-ends : (ns xs : List ℕ) → Ends (fields ns ++ (10 ∷ xs))
-unfolding fields
+unfolding fields field
 fields-ends [] xs = newline
 fields-ends (n ∷ ns) xs = comma
 
 -- The fields up to the end of a line determine the numbers, and how many there are, and what is behind the line.
 pub fields-once : (ns ms xs ys : List ℕ) → fields ns ++ (10 ∷ xs) ≡ fields ms ++ (10 ∷ ys) → (ns ≡ ms) × (xs ≡ ys)
-unfolding fields
+unfolding fields field
 fields-once [] [] xs ys e = (refl, cc)
 fields-once [] (m ∷ ms) xs ys e = let z : _≡_ {A = ℕ} 10 44 = ap (λ l. getD l 0 0) e in absurd (omega arith)
 fields-once (n ∷ ns) [] xs ys e = let z : _≡_ {A = ℕ} 44 10 = ap (λ l. getD l 0 0) e in absurd (omega arith)

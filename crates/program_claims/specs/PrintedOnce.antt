@@ -13,7 +13,7 @@ use Rattle.rules.specs.Refusal.{badSigma, badState, badZone, badCount, shortLis
 use Rattle.monitor.specs.ReferenceChart.{Answer, refused, quiet, signal}
 use Rattle.monitor.specs.Calls.{EachAnswer}
 use Rattle.text.specs.declared.lines.ZoneWeights.{ZoneWeights}
-use Rattle.text.specs.Format.{fields, weightList}
+use Rattle.text.specs.Format.{field, fields, weightList}
 use Rattle.print.specs.Refused.{refusedLine}
 use Rattle.print.specs.Monitor.{quietLine, signalLine, totalLine}
 use Rattle.print.specs.Row.{standingsLine, headerLine, rowLine, arlLine}
@@ -63,7 +63,7 @@ SameRow f g n = (f .pmf n ≡ g .pmf n) × (f .cdf n ≡ g .cdf n) × (f .surviv
 -- behind the rows comes an `a`, which begins no row
 rows-once : (f g : Figures) (k k′ i : ℕ) (xs ys : List ℕ) → rowsFrom k i (rowOf f) ++ (97 ∷ xs) ≡ rowsFrom k′ i (rowOf g) ++ (97 ∷ ys)
     → (k ≡ k′) × ((n : ℕ) → i ≤ n → n < i + k → SameRow f g n) × (_≡_ {A = List ℕ} (97 ∷ xs) (97 ∷ ys))
-unfolding rowsFrom fields
+unfolding rowsFrom fields field
 rows-once f g zero zero i xs ys e = (refl, λ n p q. absurd (omega arith), e)
 rows-once f g zero (suc k′) i xs ys e =
     absurd (not-number i comma refl refl refl (sym (e ∙ append-assoc (rowOf g i) (rowsFrom k′ (suc i) (rowOf g)) (97 ∷ ys) ∙ row-shape i _ _ _ _)))

@@ -15,6 +15,7 @@ use Rattle.monitor.specs.Calls.{EachAnswer}
 use Rattle.text.specs.declared.lines.ZoneWeights.{ZoneWeights}
 use Rattle.text.specs.Format.{weightList}
 use Rattle.text.specs.Size.{maxText}
+use Rattle.text.specs.Word.{newlines}
 use Rattle.parse.specs.Rules.{ruleListOf}
 use Rattle.print.specs.Refused.{refusedLine}
 use Rattle.print.specs.Row.{standingsLine, headerLine, rowLine, arlLine}
@@ -29,7 +30,7 @@ use Rattle.table.specs.Table.{chartCheck}
 use Rattle.bracket.specs.declared.Place.{Place}
 use Rattle.bracket.specs.Contains.{PlaceContains}
 use Rattle.claims.specs.Exact.{freeAnswers, exactSum, exactMean, reached}
-use Rattle.program_claims.specs.Texts.{TableTextIs, TableStops, MonitorTextIs, MonitorStops, newlines}
+use Rattle.program_claims.specs.Texts.{TableTextIs, TableStops, MonitorTextIs, MonitorStops}
 
 -- x is one of the numbers
 pub data OneOf : List ℕ → ℕ → Type 0 where

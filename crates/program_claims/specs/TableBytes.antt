@@ -12,24 +12,28 @@ use Rattle.rules.specs.declared.Rule.{Rule}
 use Rattle.rules.specs.Bounds.{maxRules}
 use Rattle.rules.specs.Check.{activeRules}
 use Rattle.text.specs.declared.lines.ZoneWeights.{ZoneWeights}
-use Rattle.text.specs.declared.lines.Line.{Line}
-use Rattle.text.specs.declared.lines.Line.the-variants.{Weights, Rule as RuleLine, Horizon, Chart, Point, Other}
+use Rattle.text.specs.declared.lines.Line.the-variants.{Weights, Horizon}
 use Rattle.text.specs.Format.{bytesOf, InRange, LineIs}
 use Rattle.text.specs.Spans.{Spans}
 use Rattle.text.specs.SpansLaws.{spans-then, spans-front, spans-back}
 use Rattle.text.specs.Line.{zoneWeights, lineAt}
 use Rattle.text.specs.LineLaws.{line-stands}
-use Rattle.text.specs.OnLine.{onWeights, onRule, onHorizon}
+use Rattle.text.specs.LineReadLaws.{line-read}
+use Rattle.text.specs.Word.{newlines}
+use Rattle.text.specs.NewlineLaws.{newlines-append, newlines-line}
+use Rattle.text.specs.Kind.{weights, rule, horizon, kindOf, NotOf}
+use Rattle.text.specs.KindLaws.{other-kind, weights-or-none, weights-passed, horizon-or-none, horizon-passed}
+use Rattle.text.specs.OnLine.{onWeights}
 use Rattle.parse.specs.declared.tables.TableText.{TableText}
 use Rattle.rules.specs.Refusal.{badLine, tooLong}
 use Rattle.text.specs.Size.{maxText}
 use Rattle.parse.specs.Rules.{rulesAt, afterRules, ruleListOf}
 use Rattle.parse.specs.RulesLaws.{rules-end, active-rules}
 use Rattle.parse.specs.TableText.{refusedTable, readTable, tableEnd, tableText}
-use Rattle.program_claims.specs.Texts.{weightsLine, horizonLine, ruleLines, RulesInRange, TableTextIs, newlines, weights, rule, horizon, kindOf, kindNumber, Begins}
+use Rattle.program_claims.specs.Texts.{weightsLine, horizonLine, ruleLines, RulesInRange, TableTextIs, Begins}
 use Rattle.program_claims.specs.Texts.{TableStops, no-weights, no-horizon, more, TableReading, too-long, stopped, read}
-use Rattle.program_claims.specs.NewlineLaws.{newlines-append, newlines-line, newlines-rules}
-use Rattle.program_claims.specs.LinesLaws.{drop-behind, spans-of, nothing-behind, spans-whole, whole-spans, line-found, begins-read, read-begins, kind-begins, rules-spans, rules-read}
+use Rattle.program_claims.specs.LinesLaws.{drop-behind, spans-of, nothing-behind, spans-whole, whole-spans}
+use Rattle.program_claims.specs.LinesLaws.{begins-read, begins-not, rules-spans, rules-read, newlines-rules}
 
 -- ---- every text is one of the three kinds
 
@@ -40,10 +44,11 @@ module _ (s : List ℕ) (short : length s ≤ maxText) where
     lines-before = omega (arith, newlines-append (bytesOf (weightsLine w)) (ruleLines rs), newlines-line (weightsLine w) tt, newlines-rules rs)
 
     -- another line where the horizon should be
-    stop : (x : Line) → lineAt s at ≡ x → (kindOf x ≡ rule → ⊥) → (kindOf x ≡ horizon → ⊥) → TableReading s (refusedTable (badLine (2 + length rs)))
-    stop x e r h =
+    stop : NotOf rule (lineAt s at) → NotOf horizon (lineAt s at)
+        → TableReading s (refusedTable (badLine (2 + length rs)))
+    stop r h =
         stopped (bytesOf (weightsLine w) ++ ruleLines rs) (drop at s) (2 + length rs) short (u .text)
-        (no-horizon w rs wr rr (λ b. r (ap kindOf (sym e) ∙ begins-read s at b)) (λ b. h (ap kindOf (sym e) ∙ begins-read s at b)))
+        (no-horizon w rs wr rr (λ b. r .never (begins-read s at b)) (λ b. h .never (begins-read s at b)))
         (omega (arith, lines-before))
 
     -- a horizon, and the end of the text or more
@@ -65,33 +70,26 @@ module _ (s : List ℕ) (short : length s ≤ maxText) where
             (more {rest = drop end s} w rs h wr rr (i .range) (λ q. omega (arith, ap length q, length-drop end s, leb-false (length s) end e)))
             (omega (arith, lines-all))
 
-    behind-rules : onRule (lineAt s at) (λ k m zones next. true) false ≡ false → (x : Line) → lineAt s at ≡ x
-        → TableReading s (onHorizon x (λ h end. cond (leb (length s) end) (readTable w rs h) (refusedTable (badLine (2 + length rs + 1)))) (refusedTable (badLine (2 + length rs))))
-    behind-rules n (Horizon h end) e = at-horizon h end (line-stands s at (Horizon h end) e tt)
-    behind-rules n (RuleLine k m zones next) e = let z = rw e at n in absurd (let y : _≡_ {A = ℕ} 0 1 = cc in omega arith)
-    behind-rules n (Weights x next) e = stop (Weights x next) e (λ q. omega (arith, ap kindNumber q)) (λ q. omega (arith, ap kindNumber q))
-    behind-rules n (Chart c d next) e = stop (Chart c d next) e (λ q. omega (arith, ap kindNumber q)) (λ q. omega (arith, ap kindNumber q))
-    behind-rules n (Point x next) e = stop (Point x next) e (λ q. omega (arith, ap kindNumber q)) (λ q. omega (arith, ap kindNumber q))
-    behind-rules n Other e = stop Other e (λ q. omega (arith, ap kindNumber q)) (λ q. omega (arith, ap kindNumber q))
+    behind-rules : NotOf rule (lineAt s at) → TableReading s (tableEnd s w rs at)
+    unfolding tableEnd
+    behind-rules r =
+        horizon-or-none (lineAt s at)
+        (λ h end e. rw e (at-horizon h end (line-stands s at (Horizon h end) e tt)))
+        (λ n. rw (horizon-passed (lineAt s at) _ _ n) (stop r n))
 
-  -- another line where the weights should be
-  no-first : (x : Line) → lineAt s 0 ≡ x → (kindNumber (kindOf x) ≡ 0 → ⊥) → TableReading s (refusedTable (badLine 1))
+  first-line : TableReading s (onWeights (lineAt s 0)
+      (λ w at. tableEnd s w (rulesAt (length s) s at) (afterRules (length s) s at)) (refusedTable (badLine 1)))
   unfolding newlines
-  no-first x e n = stopped [] s 1 short refl (no-weights (λ b. n (ap (λ (l : Line). kindNumber (kindOf l)) (sym e) ∙ ap kindNumber (begins-read s 0 b)))) refl
-
-  first-line : (x : Line) → lineAt s 0 ≡ x
-      → TableReading s (onWeights x (λ w at. tableEnd s w (rulesAt (length s) s at) (afterRules (length s) s at)) (refusedTable (badLine 1)))
-  unfolding tableEnd
-  first-line (Weights w at) e =
+  first-line =
+      weights-or-none (lineAt s 0)
+      (λ w at e.
       let i = line-stands s 0 (Weights w at) e tt in
       let r = rules-spans (length s) s at in
-      behind-rules w (rulesAt (length s) s at) (afterRules (length s) s at) (i .range) (r .1) (spans-then (i .spans) (r .0))
-      (rules-end (length s) s at (λ k m zones next. true) false (omega arith)) (lineAt s (afterRules (length s) s at)) refl
-  first-line (RuleLine k m zones next) e = no-first (RuleLine k m zones next) e (λ q. omega arith)
-  first-line (Horizon h next) e = no-first (Horizon h next) e (λ q. omega arith)
-  first-line (Chart c d next) e = no-first (Chart c d next) e (λ q. omega arith)
-  first-line (Point x next) e = no-first (Point x next) e (λ q. omega arith)
-  first-line Other e = no-first Other e (λ q. omega arith)
+      rw e (behind-rules w (rulesAt (length s) s at) (afterRules (length s) s at) (i .range) (r .1)
+      (spans-then (i .spans) (r .0)) (rules-end (length s) s at (omega arith))))
+      (λ n.
+      rw (weights-passed (lineAt s 0) _ _ n)
+      (stopped [] s 1 short refl (no-weights (λ b. n .never (begins-read s 0 b))) refl))
 
 -- Every text is refused by 17; or by 16, at the place that counts the LFs before the first line that cannot come next; or it is read.
 pub table-reading : (s : List ℕ) → TableReading s (tableText s)
@@ -99,8 +97,10 @@ unfolding tableText
 table-reading s = go (leb (length s) maxText) refl
   where
     go : (b : Bool) → leb (length s) maxText ≡ b
-        → TableReading s (cond b (onWeights (lineAt s 0) (λ w at. tableEnd s w (rulesAt (length s) s at) (afterRules (length s) s at)) (refusedTable (badLine 1))) (refusedTable tooLong))
-    go true e = first-line s (leb-true _ _ e) (lineAt s 0) refl
+        → TableReading s (cond b (onWeights (lineAt s 0)
+        (λ w at. tableEnd s w (rulesAt (length s) s at) (afterRules (length s) s at)) (refusedTable (badLine 1)))
+        (refusedTable tooLong))
+    go true e = first-line s (leb-true _ _ e)
     go false e = too-long (leb-false _ _ e)
 
 -- ---- the lines of weights, rules and a horizon are read back
@@ -115,15 +115,18 @@ record Found (s : List ℕ) (w : ZoneWeights) (rs : List Rule) (h : ℕ) : Type 
 
 found : {s : List ℕ} {w : ZoneWeights} {rs : List Rule} {h : ℕ} → TableTextIs s w rs h → Found s w rs h
 found {s} {w} {rs} {h} t =
+    let W = bytesOf (weightsLine w) in
+    let R = ruleLines rs in
+    let H = bytesOf (horizonLine h) in
     let whole = spans-whole (t .bytes) in
-    let front = spans-front (bytesOf (weightsLine w) ++ ruleLines rs) (bytesOf (horizonLine h)) whole in
-    let last = line-found s _ (horizonLine h) _ (t .horizon-range) (spans-back (bytesOf (weightsLine w) ++ ruleLines rs) (bytesOf (horizonLine h)) whole) in
-    let r = rules-read (length s) rs (omega arith) (t .rules-range) (spans-back (bytesOf (weightsLine w)) (ruleLines rs) front)
-    (λ q. omega (arith, ap kindNumber (ap kindOf (sym last) ∙ q))) in
+    let front = spans-front (W ++ R) H whole in
+    let last = line-read (Horizon h _) (record { spans = spans-back (W ++ R) H whole; range = t .horizon-range }) in
+    let r = rules-read (length s) rs (omega arith) (t .rules-range) (spans-back W R front)
+    (other-kind (ap kindOf last) (λ q. omega arith)) in
     record {
       next = _;
       at = _;
-      first = line-found s 0 (weightsLine w) _ (t .weights-range) (spans-front (bytesOf (weightsLine w)) (ruleLines rs) front);
+      first = line-read (Weights w _) (record { spans = spans-front W R front; range = t .weights-range });
       rules = r .0;
       after = r .1;
       last = last;
@@ -172,56 +175,36 @@ table-exactly {s} {w} {rs} {h} few e =
 
 -- ---- and a text that goes wrong is refused by 16, there
 
-module _ (s : List ℕ) where
-  other-weights : {A : Type 0} (f : ZoneWeights → ℕ → A) (other : A) → (Begins weights s → ⊥) → onWeights (lineAt s 0) f other ≡ other
-  other-weights f other nw = go (lineAt s 0) refl
-    where
-      go : (x : Line) → lineAt s 0 ≡ x → onWeights x f other ≡ other
-      go (Weights w next) e = absurd (nw (read-begins s 0 (Weights w next) e tt))
-      go (RuleLine k m zones next) e = refl
-      go (Horizon h next) e = refl
-      go (Chart c d next) e = refl
-      go (Point x next) e = refl
-      go Other e = refl
-
-  other-horizon : {A : Type 0} (at : ℕ) (f : ℕ → ℕ → A) (other : A) → (Begins horizon (drop at s) → ⊥) → onHorizon (lineAt s at) f other ≡ other
-  other-horizon at f other nh = go (lineAt s at) refl
-    where
-      go : (x : Line) → lineAt s at ≡ x → onHorizon x f other ≡ other
-      go (Weights w next) e = refl
-      go (RuleLine k m zones next) e = refl
-      go (Horizon h next) e = absurd (nh (read-begins s at (Horizon h next) e tt))
-      go (Chart c d next) e = refl
-      go (Point x next) e = refl
-      go Other e = refl
-
 -- A text that is right up to the end of `front`, where the next line cannot come next, is refused by 16 with the place behind the LFs of `front`.
 pub table-stopped : {s front rest : List ℕ} → length s ≤ maxText → s ≡ front ++ rest → TableStops front rest → tableText s ≡ refusedTable (badLine (1 + newlines front))
 unfolding tableText tableEnd newlines
 table-stopped {s} l e (no-weights nw) =
     let nw′ : Begins weights s → ⊥ = rw e nw in
-    rw (le-leb (length s) maxText l) (other-weights s _ _ nw′)
+    rw (le-leb (length s) maxText l) (weights-passed (lineAt s 0) _ _ (begins-not s 0 weights (λ q. omega arith) nw′))
 table-stopped {s} l e (no-horizon {rest} w rs wr rr nr nh) =
     let W = bytesOf (weightsLine w) in
     let R = ruleLines rs in
     let at = 0 + length (W ++ R) in
     let d : drop at s ≡ rest = drop-behind s 0 (W ++ R) rest e in
     let u = spans-of s 0 (W ++ R) rest e in
-    let first = line-found s 0 (weightsLine w) _ wr (spans-front W R u) in
+    let first = line-read (Weights w _) (record { spans = spans-front W R u; range = wr }) in
     let nr′ : Begins rule (drop at s) → ⊥ = rw d nr in
     let nh′ : Begins horizon (drop at s) → ⊥ = rw d nh in
-    let r = rules-read (length s) rs (omega arith) rr (spans-back W R u) (λ q. nr′ (kind-begins s at (λ z. omega (arith, ap kindNumber z)) q)) in
+    let nr″ = begins-not s at rule (λ q. omega arith) nr′ in
+    let nh″ = begins-not s at horizon (λ q. omega arith) nh′ in
+    let r = rules-read (length s) rs (omega arith) rr (spans-back W R u) nr″ in
     let place : 2 + length rs ≡ 1 + newlines (W ++ R) = omega (arith, newlines-append W R, newlines-line (weightsLine w) tt, newlines-rules rs) in
-    rw (le-leb (length s) maxText l, first, r .0, r .1, ← place) (other-horizon s at _ _ nh′)
+    rw (le-leb (length s) maxText l, first, r .0, r .1, ← place) (horizon-passed (lineAt s at) _ _ nh″)
 table-stopped {s} l e (more {rest} w rs h wr rr hr n) =
     let W = bytesOf (weightsLine w) in
     let R = ruleLines rs in
     let H = bytesOf (horizonLine h) in
     let u = spans-of s 0 (W ++ R ++ H) rest e in
     let front = spans-front (W ++ R) H u in
-    let first = line-found s 0 (weightsLine w) _ wr (spans-front W R front) in
-    let last = line-found s _ (horizonLine h) _ hr (spans-back (W ++ R) H u) in
-    let r = rules-read (length s) rs (omega arith) rr (spans-back W R front) (λ q. omega (arith, ap kindNumber (ap kindOf (sym last) ∙ q))) in
+    let first = line-read (Weights w _) (record { spans = spans-front W R front; range = wr }) in
+    let last = line-read (Horizon h _) (record { spans = spans-back (W ++ R) H u; range = hr }) in
+    let r = rules-read (length s) rs (omega arith) rr (spans-back W R front)
+    (other-kind (ap kindOf last) (λ q. omega arith)) in
     let long : 0 + length (W ++ R ++ H) < length s = omega (arith, ap length e, length-append (W ++ R ++ H) rest, nothing-behind rest n) in
     let place : 2 + length rs + 1 ≡ 1 + newlines (W ++ R ++ H) =
     omega (arith, newlines-append (W ++ R) H, newlines-append W R, newlines-line (weightsLine w) tt, newlines-rules rs, newlines-line (horizonLine h) tt) in

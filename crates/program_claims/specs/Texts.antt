@@ -1,15 +1,15 @@
 -- The bytes of a whole text, line by line, and where a text goes wrong: nothing here reads at an offset. Definitions.
 use Prim.Native.Nat.{ℕ, _+_, _≤_, _<_}
 use mathlib.Core.Path.{_≡_}
-use mathlib.Core.Bool.{cond}
 use mathlib.Core.List.{List, [], _∷_, _++_}
-use lib.Dec.{eqb}
 use lib.IntN.{ℤ}
 use lib.ListN.{length}
 use Rattle.rules.specs.declared.Rule.{Rule}
 use Rattle.text.specs.declared.lines.ZoneWeights.{ZoneWeights}
 use Rattle.text.specs.declared.lines.Line.{Line}
-use Rattle.text.specs.declared.lines.Line.the-variants.{Weights, Rule as RuleLine, Horizon, Chart, Point, Other}
+use Rattle.text.specs.declared.lines.Line.the-variants.{Weights, Rule as RuleLine, Horizon, Chart, Point}
+use Rattle.text.specs.Word.{newlines}
+use Rattle.text.specs.Kind.{Kind, weights, rule, horizon, chart, point, kindOf}
 use Rattle.text.specs.Format.{bytesOf, InRange}
 use Rattle.parse.specs.declared.tables.TableText.{TableText}
 use Rattle.parse.specs.declared.monitors.MonitorText.{MonitorText}
@@ -72,36 +72,6 @@ pub record MonitorTextIs (s : List ℕ) (centre : ℤ) (sigma : ℕ) (rs : List 
   pub points-range : PointsInRange xs
 
 -- ---- where a text goes wrong
-
--- how many LFs there are
-unfoldable pub newlines : List ℕ → ℕ
-newlines [] = 0
-newlines (b ∷ bytes) = cond (eqb b 10) 1 0 + newlines bytes
-
-pub data Kind : Type 0 where
-  weights : Kind
-  rule : Kind
-  horizon : Kind
-  chart : Kind
-  point : Kind
-  none : Kind
-
-abbrev pub kindOf : Line → Kind
-kindOf (Weights w next) = weights
-kindOf (RuleLine k m zones next) = rule
-kindOf (Horizon h next) = horizon
-kindOf (Chart centre sigma next) = chart
-kindOf (Point x next) = point
-kindOf Other = none
-
--- a number for each
-abbrev pub kindNumber : Kind → ℕ
-kindNumber weights = 0
-kindNumber rule = 1
-kindNumber horizon = 2
-kindNumber chart = 3
-kindNumber point = 4
-kindNumber none = 5
 
 -- the bytes begin with a line of this kind, every number of it within 32 bits
 pub record Begins (kind : Kind) (bytes : List ℕ) : Type 0 where

@@ -4,6 +4,7 @@ pub mod PrintedLaws
 pub mod TableReport
 pub mod TableReportLaws
 pub mod Points
+pub mod PointsWritten
 pub mod PointsLaws
 pub mod MonitorReport
 pub mod MonitorReportLaws

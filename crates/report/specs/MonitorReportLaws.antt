@@ -1,12 +1,13 @@
 -- What the monitor program prints, case by case; and that none of its points is refused.
 use Prim.Native.Nat.{ℕ, _*_, _≤_}
-use mathlib.Core.Path.{_≡_, refl, _∙_}
-use mathlib.Core.Bool.{true, false}
+use mathlib.Core.Path.{_≡_, refl}
+use mathlib.Core.Bool.{Bool, true, false}
 use mathlib.Core.List.{List, [], _∷_}
 use native.Mathlib.Omega.{arith}
 use lib.IntN.{ℤ, _-ℤ_}
 use lib.ListN.{length}
-use borrow.Author.Tests.{eq-eqb, ne-eqb}
+use lib.Dec.{leb}
+use borrow.Author.Tests.{leb-true, eq-eqb, ne-eqb}
 use Rattle.rules.specs.declared.RuleList.{RuleList}
 use Rattle.rules.specs.declared.refusal.Refusal.{Refusal}
 use Rattle.rules.specs.declared.Checked.{Checked}
@@ -16,7 +17,7 @@ use Rattle.rules.specs.CheckLaws.{accepted}
 use Rattle.rules.specs.Refusal.{badSigma}
 use Rattle.monitor.specs.Zone.{minSigma, maxSigma}
 use Rattle.monitor.specs.ZoneLaws.{zone-exists}
-use Rattle.text.specs.Size.{maxText}
+use Rattle.text.specs.Size.{maxText, minPoint}
 use Rattle.rules.specs.Bounds.{zoneCount, maxNumber}
 use Rattle.monitor.specs.Step.{freshMonitor}
 use Rattle.monitor.specs.Calls.{refusalNumber, EachAnswer}
@@ -28,13 +29,12 @@ use Rattle.text.specs.Wrote.{Wrote}
 use Rattle.parse.specs.declared.monitors.MonitorText.{MonitorText}
 use Rattle.parse.specs.Readings.{readingsAt}
 use Rattle.parse.specs.ReadingsLaws.{points-fit}
-use Rattle.parse.specs.MonitorText.{monitorText, monitorReadings}
-use Rattle.parse.specs.MonitorTextLaws.{MonitorRead, monitor-read}
+use Rattle.parse.specs.MonitorText.{refusedMonitor, monitorText}
 use Rattle.report.specs.declared.ReportAnswer.the-variants.{Written, Refused}
 use Rattle.report.specs.Printed.{report, reportOf}
-use Rattle.report.specs.PrintedLaws.{as-refused, as-written}
+use Rattle.report.specs.PrintedLaws.{as-written}
 use Rattle.report.specs.Points.{zonesOf, pointsBytes}
-use Rattle.report.specs.MonitorReport.{readingAnswers, checkedBy, chartPrinted, monitorPrinted}
+use Rattle.report.specs.MonitorReport.{readingAnswers, monitorPrinted}
 
 -- ---- the points' answers
 
@@ -61,39 +61,43 @@ module _ (l : RuleList) (a : checkOf l ≡ Accepted) (centre : ℤ) (sigma : ℕ
 
 -- ---- the report of a text
 
+-- a text that is not refused is no longer than the most
+read-short : (s : List ℕ) → monitorText s .refusal .number ≡ 0 → length s ≤ maxText
+unfolding monitorText refusedMonitor
+read-short s z = go (leb (length s) maxText) refl
+  where
+    go : (t : Bool) → leb (length s) maxText ≡ t → length s ≤ maxText
+    go true e = leb-true (length s) maxText e
+    go false e = let z′ = rw e at z in absurd (omega arith)
+
 module _ (s out : List ℕ) (t : MonitorText) (is : t ≡ monitorText s) where
   pub monitor-refused : (t .refusal .number ≡ 0 → ⊥) → report (Refused (t .refusal)) out ≡ reportOf (monitorPrinted s) out
   unfolding monitorPrinted
   monitor-refused n = rw (← is, ne-eqb (t .refusal .number) 0 n)
 
   module _ (read : t .refusal .number ≡ 0) where
-    printed : monitorPrinted s ≡ chartPrinted (t .list) (t .centre) (t .sigma) (monitorReadings s)
-    unfolding monitorPrinted
-    printed = rw (← is, eq-eqb (t .refusal .number) 0 read)
-
     pub rules-refused : (x : Refusal) → checkOf (t .list) ≡ Checked.Refused x → report (Refused x) out ≡ reportOf (monitorPrinted s) out
-    rules-refused x e = as-refused x out (printed ∙ rw e)
+    unfolding monitorPrinted
+    rules-refused x e = rw (← is, eq-eqb (t .refusal .number) 0 read, e)
 
     module _ (ok : checkOf (t .list) ≡ Accepted) where
       pub sigma-refused : within minSigma maxSigma (t .sigma) ≡ false → report (Refused badSigma) out ≡ reportOf (monitorPrinted s) out
-      sigma-refused h = as-refused badSigma out (printed ∙ rw (ok, h))
+      unfolding monitorPrinted
+      sigma-refused h = rw (← is, eq-eqb (t .refusal .number) 0 read, ok, h)
 
       module _ (fits : within minSigma maxSigma (t .sigma) ≡ true) where
-        -- the readings that the loop reads again are those of the text
-        found : MonitorRead s
-        found = monitor-read s (rw (← is) read)
-
         pub text-short : length s ≤ maxText
-        text-short = found .short
+        text-short = read-short s (rw (← is) read)
 
-        pub points-few : 8 * length (readingsAt (length s) s (t .points)) ≤ length s
+        pub points-few : minPoint * length (readingsAt (length s) s (t .points)) ≤ length s
         points-few = points-fit (length s) s (t .points)
 
         pub points-written : {centre : ℤ} → centre ≡ t .centre → (out′ : List ℕ) (r : ℕ)
             → Wrote out 0 out′ r (pointsBytes (takenAnswers (activeRules (t .list)) freshMonitor (zonesOf centre (t .sigma) (readingsAt (length s) s (t .points)))))
             → report (Written r) out′ ≡ reportOf (monitorPrinted s) out
+        unfolding monitorPrinted
         points-written {centre} c out′ r w =
             let xs : List ℤ = readingsAt (length s) s (t .points) in
-            let same : monitorReadings s ≡ xs = rw (← is) in
             let answers = taken-one-by-one (t .list) ok (t .centre) (t .sigma) xs (omega (arith, points-few, text-short)) in
-            as-written out out′ r (printed ∙ rw (ok, fits, same, answers)) (rw c at w)
+            as-written {p = monitorPrinted s} out out′ r
+            (rw (← is, eq-eqb (t .refusal .number) 0 read, ok, fits, answers)) (rw c at w)

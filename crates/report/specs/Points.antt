@@ -6,14 +6,14 @@ use lib.IntN.{ℤ, _-ℤ_}
 use Rattle.monitor.specs.Zone.{zoneAt}
 use Rattle.monitor.specs.ReferenceChart.{Answer, refused, quiet, signal}
 use Rattle.text.specs.Size.{maxText, minPoint}
-use Rattle.print.specs.Monitor.{quietLine, signalLine, signalRoom, totalLine, totalRoom}
+use Rattle.print.specs.Monitor.{quietLine, signalLine, pointRoom, totalLine, totalRoom}
 
 -- the most points that a text can have, and the most bytes of their lines and the total
 abbrev pub maxPoints : ℕ
 maxPoints = maxText / minPoint
 
 abbrev pub monitorRoom : ℕ
-monitorRoom = signalRoom * maxPoints + totalRoom
+monitorRoom = pointRoom * maxPoints + totalRoom
 
 -- the zones of readings on the chart with this centre and sigma
 unfoldable pub zonesOf : ℤ → ℕ → List ℤ → List ℕ

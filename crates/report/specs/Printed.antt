@@ -4,14 +4,20 @@ use mathlib.Core.Path.{_≡_}
 use mathlib.Core.List.{List, _++_}
 use lib.ListN.{length, take, drop}
 use Rattle.rules.specs.declared.refusal.Refusal.{Refusal}
+use Rattle.rules.specs.declared.Checked.{Checked}
+use Rattle.rules.specs.declared.Checked.the-variants.{Accepted, Refused}
 use Rattle.print.specs.Refused.{refusedLine}
 use Rattle.report.specs.declared.ReportAnswer.{ReportAnswer}
-use Rattle.report.specs.declared.ReportAnswer.the-variants.{Written, Refused}
 
 -- the bytes of an accepted text's lines, or the refusal
 pub data Printed : Type 0 where
   lines : List ℕ → Printed
   refusedBy : Refusal → Printed
+
+-- the lines of a text that is accepted, or its refusal
+abbrev pub printedBy : Checked → List ℕ → Printed
+printedBy Accepted bytes = lines bytes
+printedBy (Refused x) bytes = refusedBy x
 
 -- what a program writes to standard output: the lines, or the one line of the refusal
 unfoldable pub printedBytes : Printed → List ℕ
@@ -36,5 +42,5 @@ report a out = record { answer = a; buffer = out }
 
 -- the bytes stand in front, the rest of the buffer keeps its contents; a refusal leaves all of it as it was
 abbrev pub reportOf : Printed → List ℕ → Report
-reportOf (lines bytes) out = report (Written (length bytes)) (bytes ++ drop (length bytes) out)
-reportOf (refusedBy x) out = report (Refused x) out
+reportOf (lines bytes) out = report (ReportAnswer.Written (length bytes)) (bytes ++ drop (length bytes) out)
+reportOf (refusedBy x) out = report (ReportAnswer.Refused x) out

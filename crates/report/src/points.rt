@@ -1,8 +1,8 @@
 // The lines of a text's points, read again one by one.
 use monitor::Monitor;
 use monitor::zone::zone_at;
-use print::put_quiet;
-use print::put_signal;
+use print::PointLine;
+use print::put_point;
 use print::put_total;
 use rules::RuleList;
 use text::Line;
@@ -17,12 +17,12 @@ ghost use Rattle.rules.specs.Check.{activeRules};
 ghost use Rattle.rules.specs.InBounds.{AllInBounds};
 ghost use Rattle.monitor.specs.Zone.{minSigma, maxSigma};
 ghost use Rattle.monitor.specs.Step.{freshMonitor};
-ghost use Rattle.monitor.specs.Take.{maskAnswer, takenAnswers};
+ghost use Rattle.monitor.specs.Take.{takenAnswers};
 ghost use Rattle.text.specs.Wrote.{Wrote};
 ghost use Rattle.text.specs.Size.{maxText};
 ghost use Rattle.parse.specs.Readings.{readingsAt};
-ghost use Rattle.print.specs.Monitor.{signalRoom, totalRoom};
-ghost use Rattle.report.specs.Points.{zonesOf, lineOf, pointsBytes};
+ghost use Rattle.print.specs.Monitor.{pointRoom, totalRoom};
+ghost use Rattle.report.specs.Points.{zonesOf, pointsBytes};
 
 // A chart's centre and sigma.
 pub(crate) struct Chart {
@@ -37,18 +37,6 @@ fn one_signal(mask: u32) -> u32
     if mask == 0 { 0 } else { 1 }
 }
 
-// The line of a point, by its mask and its count.
-fn put_answer(out: &mut [u8], at: usize, mask: u32, count: u32) -> usize
-    requires { ⌜ at + signalRoom ≤ length (now out) ⌝ }
-    ensures { λ r. ⌜ Wrote (now (out .entry)) at (now (out .exit)) r (lineOf (maskAnswer mask count)) ⌝ }
-    ensures { λ r. ⌜ r ≤ at + signalRoom ⌝ }
-{
-    if mask == 0 {
-        return put_quiet(out, at, count);
-    }
-    put_signal(out, at, count, mask)
-}
-
 // The lines of the points from `at` on, and the total, from the buffer's start.
 pub(crate) fn put_points(
     out: &mut [u8],
@@ -60,7 +48,7 @@ pub(crate) fn put_points(
     requires { ⌜ (list .len ≤ maxRules) × AllInBounds (activeRules list) ⌝ }
     requires { ⌜ (minSigma ≤ chart .sigma) × (chart .sigma ≤ maxSigma) ⌝ }
     requires { ⌜ length (now text) ≤ maxText ⌝ }
-    requires { ⌜ signalRoom * length (readingsAt (length (now text)) (now text) at) + totalRoom ≤ length (now out) ⌝ }
+    requires { ⌜ pointRoom * length (readingsAt (length (now text)) (now text) at) + totalRoom ≤ length (now out) ⌝ }
     ensures { λ r. ⌜ Wrote (now (out .entry)) 0 (now (out .exit)) r
         (pointsBytes (takenAnswers (activeRules list) freshMonitor (zonesOf (chart .centre) (chart .sigma) (readingsAt (length (now (text .entry))) (now (text .entry)) at)))) ⌝ }
 {
@@ -77,7 +65,7 @@ pub(crate) fn put_points(
         let count = monitor.count + 1;
         let taken = monitor.take(list, zone);
         let mask = taken.mask;
-        end = put_answer(out, end, mask, count);
+        end = put_point(out, end, PointLine { count, mask });
         signals += one_signal(mask);
         points += 1;
         monitor = taken.next;

@@ -5,4 +5,3 @@ mod Sign
 mod Weight
 mod On
 mod Tenth
-pub mod Else

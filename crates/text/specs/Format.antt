@@ -11,7 +11,7 @@ use Rattle.text.specs.Spans.{Spans}
 use Rattle.text.specs.Word.{comma, newline, weightsWord, ruleWord, horizonWord, chartWord, pointWord}
 
 -- a field is a comma and a number
-abbrev pub field : ℕ → List ℕ
+unfoldable pub field : ℕ → List ℕ
 field n = comma ++ decimal n
 
 abbrev pub signedField : ℤ → List ℕ

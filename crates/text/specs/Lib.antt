@@ -13,9 +13,12 @@ pub mod ReadBackLaws
 pub mod SignedLaws
 pub mod Line
 pub mod OnLine
+pub mod Kind
+pub mod KindLaws
 pub mod FieldsLaws
 pub mod LineLaws
 pub mod LineReadLaws
-mod Examples
+pub mod RuleLineLaws
+pub mod NewlineLaws
 pub mod Wrote
 pub mod WroteLaws

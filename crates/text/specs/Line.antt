@@ -1,15 +1,17 @@
 -- Reading a line at an offset of a text: a keyword, its fields, and LF. Definitions; LineLaws says which bytes each line is.
 use Prim.Native.Nat.{ℕ, zero, suc}
-use mathlib.Core.Bool.{Bool, true, false}
 use mathlib.Core.List.{List, [], _∷_, _++_}
 use lib.ListN.{getD}
 use Rattle.rules.specs.Bounds.{zoneCount}
 use Rattle.text.specs.declared.lines.ZoneWeights.{ZoneWeights}
 use Rattle.text.specs.declared.lines.Line.{Line}
 use Rattle.text.specs.declared.lines.Line.the-variants.{Weights, Rule, Horizon, Chart, Point, Other}
+use Rattle.text.specs.declared.lines.RuleLine.{RuleLine}
+use Rattle.text.specs.declared.lines.RuleLine.the-variants.{Unreadable}
 use Rattle.text.specs.Word.{newline, weightsWord, ruleWord, horizonWord, chartWord, pointWord, wordAt, onFound}
 use Rattle.text.specs.Number.{fieldAt, onNumber}
 use Rattle.text.specs.Signed.{signedFieldAt, onSigned}
+use Rattle.text.specs.OnLine.{onRule}
 
 -- the weights in the order of the zones
 abbrev pub zoneWeights : List ℕ → ZoneWeights
@@ -62,6 +64,6 @@ lineAt s at =
     (onFound (wordAt pointWord s at) (pointFrom s)
     Other))))
 
--- whether the line at an offset begins with `rule`
-abbrev pub beginsRule : List ℕ → ℕ → Bool
-beginsRule s at = onFound (wordAt ruleWord s at) (λ p. true) false
+-- the line at an offset, where a rule may come next: it does not begin with `rule`; else it gives three numbers or not
+unfoldable pub ruleLineAt : List ℕ → ℕ → RuleLine
+ruleLineAt s at = onFound (wordAt ruleWord s at) (λ p. onRule (ruleFrom s p) RuleLine.Rule Unreadable) RuleLine.Absent

@@ -1,11 +1,10 @@
 -- The law of reading a line: what is read stands in the text, byte by byte, with the next line right behind it.
-use Prim.Native.Nat.{ℕ, zero, suc, _+_, _≤_, _<_}
-use mathlib.Core.Path.{_≡_, refl, sym, _∙_}
-use mathlib.Core.Bool.{true, false}
+use Prim.Native.Nat.{ℕ, zero, suc, _+_, _≤_}
+use mathlib.Core.Path.{_≡_, refl}
 use mathlib.Core.Logic.{_⊎_, inl, inr, ⊎-elim}
 use mathlib.Core.List.{List, [], _∷_, _++_}
 use native.Mathlib.Omega.{arith}
-use lib.ListN.{length, getD, length-append}
+use lib.ListN.{length, length-append}
 use lib.IntN.{ℤ}
 use Rattle.rules.specs.Bounds.{zoneCount}
 use Rattle.text.specs.declared.number.Number.{Number}
@@ -18,15 +17,16 @@ use Rattle.text.specs.declared.lines.Line.{Line}
 use Rattle.text.specs.declared.lines.Line.the-variants.{Weights, Rule, Horizon, Chart, Point, Other}
 use Rattle.text.specs.DecimalLaws.{decimal-some, signed-some}
 use Rattle.text.specs.Spans.{Spans}
-use Rattle.text.specs.SpansLaws.{spans-then, spans-within, spans-front, spans-first}
+use Rattle.text.specs.SpansLaws.{spans-then, spans-within}
+use Rattle.text.specs.Size.{minPoint, minLine}
 use Rattle.text.specs.Word.{newline, weightsWord, ruleWord, horizonWord, chartWord, pointWord, wordAt, onFound}
-use Rattle.text.specs.WordLaws.{word-spans, word-read}
+use Rattle.text.specs.WordLaws.{word-spans}
 use Rattle.text.specs.Number.{fieldAt, onNumber}
 use Rattle.text.specs.NumberLaws.{field-is}
 use Rattle.text.specs.Signed.{signedFieldAt, onSigned}
 use Rattle.text.specs.SignedLaws.{signed-field-is}
-use Rattle.text.specs.Line.{zoneWeights, fieldsFrom, weightsFrom, ruleFrom, horizonFrom, chartFrom, pointFrom, lineAt, beginsRule}
-use Rattle.text.specs.OnLine.{onRule}
+use Rattle.text.specs.Line.{zoneWeights, fieldsFrom, weightsFrom, ruleFrom, horizonFrom, chartFrom}
+use Rattle.text.specs.Line.{pointFrom, lineAt}
 use Rattle.text.specs.Format.{field, signedField, fields, weightList, Unsigned, AllUnsigned, none, InSigned, InRange, bytesOf, nextOf, NotOther, LineIs}
 use Rattle.text.specs.FieldsLaws.{fields-snoc, unsigned-snoc, weight-list}
 
@@ -125,7 +125,8 @@ line-stands s at l e n = go l n (rw e at (line-is s at))
     go l n (inr r) = r
 
 -- how far a line reaches: the shortest is `point,0`
-bytes-long : (l : Line) → InRange l → 8 ≤ length (bytesOf l)
+bytes-long : (l : Line) → InRange l → minLine ≤ length (bytesOf l)
+unfolding field
 bytes-long (Weights w next) r = simp length-append (omega arith)
 bytes-long (Rule k m zones next) r = simp length-append (omega (arith, decimal-some k, decimal-some m, decimal-some zones))
 bytes-long (Horizon horizon next) r = simp length-append (omega (arith, decimal-some horizon))
@@ -134,10 +135,20 @@ bytes-long (Point reading next) r = simp length-append (omega (arith, signed-som
 bytes-long Other r = absurd r
 
 -- it ends behind its start and within the text
-pub line-ahead : {s : List ℕ} {at : ℕ} (l : Line) → LineIs s at l → (at + 8 ≤ nextOf l) × (nextOf l ≤ length s)
+pub line-ahead : {s : List ℕ} {at : ℕ} (l : Line) → LineIs s at l → (at + minLine ≤ nextOf l) × (nextOf l ≤ length s)
 line-ahead l i =
     let b = bytes-long l (i .range) in
     (omega (arith, i .spans .end), spans-within (bytesOf l) (omega arith) (i .spans))
+
+-- the same, of a line in hand
+pub read-ahead : (s : List ℕ) (at : ℕ) (l : Line) → lineAt s at ≡ l → NotOther l
+    → (at + minLine ≤ nextOf l) × (nextOf l ≤ length s)
+read-ahead s at l e n = line-ahead l (line-stands s at l e n)
+
+-- of a point line, whose fewest bytes are known
+pub point-ahead : (s : List ℕ) (at : ℕ) (x : ℤ) (next : ℕ) → lineAt s at ≡ Point x next
+    → (at + minPoint ≤ next) × (next ≤ length s)
+point-ahead s at x next e = read-ahead s at (Point x next) e tt
 
 -- there is no line at or beyond the end
 pub line-beyond : (s : List ℕ) (at : ℕ) → length s ≤ at → lineAt s at ≡ Other
@@ -146,50 +157,3 @@ line-beyond s at h =
     (λ (e : lineAt s at ≡ Other). e)
     (λ (i : LineIs s at (lineAt s at)). let a = line-ahead (lineAt s at) i in absurd (omega (arith, a)))
     (line-is s at)
-
--- ---- a line that begins with `rule` is a rule line or none
-
-rule-begins : (s : List ℕ) (at k m zones next : ℕ) → lineAt s at ≡ Rule k m zones next → beginsRule s at ≡ true
-rule-begins s at k m zones next e =
-    let l = line-stands s at (Rule k m zones next) e tt in
-    let u = spans-front ruleWord (field k ++ field m ++ field zones ++ newline) (l .spans) in
-    rw (word-read ruleWord u)
-
--- where the word does not stand, the line is no rule line
-pub no-rule : {A : Type 0} (s : List ℕ) (at : ℕ) (f : ℕ → ℕ → ℕ → ℕ → A) (other : A) → beginsRule s at ≡ false → onRule (lineAt s at) f other ≡ other
-no-rule s at f other n = go (lineAt s at) refl
-  where
-    go : (x : Line) → lineAt s at ≡ x → onRule x f other ≡ other
-    go (Weights w next) e = refl
-    go (Rule k m zones next) e = let b = sym (rule-begins s at k m zones next e) ∙ n in let z : _≡_ {A = ℕ} 0 1 = cc in absurd (omega arith)
-    go (Horizon h next) e = refl
-    go (Chart c d next) e = refl
-    go (Point x next) e = refl
-    go Other e = refl
-
--- where it stands, the line is a rule line or cannot be read
-pub rule-or-other : (s : List ℕ) (at : ℕ) → beginsRule s at ≡ true → ((k m zones next : ℕ) → lineAt s at ≡ Rule k m zones next → ⊥) → lineAt s at ≡ Other
-rule-or-other s at b n = at-word (wordAt ruleWord s at) refl b
-  where
-    at-word : (x : Found) → wordAt ruleWord s at ≡ x → onFound x (λ p. true) false ≡ true → lineAt s at ≡ Other
-    at-word (At p) q t = go (lineAt s at) refl
-      where
-        first : getD s at 0 ≡ 114
-        first = spans-first (word-spans ruleWord s at p q)
-
-        go : (x : Line) → lineAt s at ≡ x → x ≡ Other
-        go (Weights w next) e = let z : getD s at 0 ≡ 119 = spans-first (line-stands s at (Weights w next) e tt .spans) in absurd (omega (arith, first))
-        go (Rule k m zones next) e = absurd (n k m zones next e)
-        go (Horizon h next) e = let z : getD s at 0 ≡ 104 = spans-first (line-stands s at (Horizon h next) e tt .spans) in absurd (omega (arith, first))
-        go (Chart c d next) e = let z : getD s at 0 ≡ 99 = spans-first (line-stands s at (Chart c d next) e tt .spans) in absurd (omega (arith, first))
-        go (Point x next) e = let z : getD s at 0 ≡ 112 = spans-first (line-stands s at (Point x next) e tt .spans) in absurd (omega (arith, first))
-        go Other e = refl
-    at-word Absent q t = let z : _≡_ {A = ℕ} 0 1 = cc in absurd (omega arith)
-
--- and it stands within the text
-pub rule-within : (s : List ℕ) (at : ℕ) → beginsRule s at ≡ true → at < length s
-rule-within s at b = go (wordAt ruleWord s at) refl b
-  where
-    go : (x : Found) → wordAt ruleWord s at ≡ x → onFound x (λ p. true) false ≡ true → at < length s
-    go (At p) q t = let u = word-spans ruleWord s at p q in let h = spans-within ruleWord (omega arith) u in omega (arith, h, u .end)
-    go Absent q t = let z : _≡_ {A = ℕ} 0 1 = cc in absurd (omega arith)

@@ -1,6 +1,6 @@
 -- The law of reading a line back: a line that stands in the text is read, whatever is behind it.
 use Prim.Native.Nat.{ℕ, _<_}
-use mathlib.Core.Path.{_≡_, refl, _∙_}
+use mathlib.Core.Path.{_≡_, refl, ap, _∙_}
 use mathlib.Core.Logic.{inl}
 use mathlib.Core.List.{List, [], _∷_, _++_, append-nil}
 use native.Mathlib.Omega.{arith}
@@ -18,14 +18,16 @@ use Rattle.text.specs.Number.{NoDigit}
 use Rattle.text.specs.ReadBackLaws.{field-read}
 use Rattle.text.specs.SignedLaws.{signed-field-read}
 use Rattle.text.specs.Line.{zoneWeights, fieldsFrom, weightsFrom, ruleFrom, horizonFrom, chartFrom, pointFrom, lineAt}
-use Rattle.text.specs.Format.{field, signedField, fields, weightList, AllUnsigned, none, one, LineIs}
+use Rattle.text.specs.Kind.{kindOf}
+use Rattle.text.specs.Format.{field, signedField, fields, weightList, AllUnsigned, none, one}
+use Rattle.text.specs.Format.{bytesOf, InRange, LineIs}
 
 -- a separator is no digit
 ends : {s : List ℕ} {i b j : ℕ} {l : List ℕ} → Spans s i (b ∷ l) j → b < 48 → NoDigit (getD s i 0)
 ends u h = let e = spans-first u in inl (omega arith)
 
 fields-end : {s : List ℕ} {i e j : ℕ} (ns : List ℕ) → Spans s i (fields ns) e → Spans s e newline j → NoDigit (getD s i 0)
-unfolding fields
+unfolding fields field
 fields-end {s} {i} {e} [] u v = let n : i ≡ e = omega (arith, u .end) in rw n (ends v (omega arith))
 fields-end (n ∷ ns) u v = ends u (omega arith)
 
@@ -49,7 +51,7 @@ module _ {s : List ℕ} {at : ℕ} where
       (fields-read (weightList w) [] (l .range) (spans-back weightsWord (fields (weightList w)) u) (spans-back (weightsWord ++ fields (weightList w)) newline (l .spans)))
 
   rule-read : (k m zones next : ℕ) → LineIs s at (Rule k m zones next) → lineAt s at ≡ Rule k m zones next
-  unfolding lineAt ruleFrom
+  unfolding lineAt ruleFrom field
   rule-read k m zones next l =
       let b = getD s at 0 in
       let first : b ≡ 114 = spans-first (l .spans) in
@@ -84,7 +86,7 @@ module _ {s : List ℕ} {at : ℕ} where
       )
 
   chart-read : (centre : ℤ) (sigma next : ℕ) → LineIs s at (Chart centre sigma next) → lineAt s at ≡ Chart centre sigma next
-  unfolding lineAt chartFrom
+  unfolding lineAt chartFrom field
   chart-read centre sigma next l =
       let first : getD s at 0 ≡ 99 = spans-first (l .spans) in
       let us = spans-front (chartWord ++ signedField centre ++ field sigma) newline (l .spans) in
@@ -124,3 +126,12 @@ module _ {s : List ℕ} {at : ℕ} where
   line-read (Chart centre sigma next) l = chart-read centre sigma next l
   line-read (Point reading next) l = point-read reading next l
   line-read Other l = absurd (l .range)
+
+  -- whatever offset is put behind it
+  pub kind-read : (l : Line) {end : ℕ} → InRange l → Spans s at (bytesOf l) end → kindOf (lineAt s at) ≡ kindOf l
+  kind-read (Weights w next) r u = ap kindOf (line-read (Weights w _) (record { spans = u; range = r }))
+  kind-read (Rule k m zones next) r u = ap kindOf (line-read (Rule k m zones _) (record { spans = u; range = r }))
+  kind-read (Horizon h next) r u = ap kindOf (line-read (Horizon h _) (record { spans = u; range = r }))
+  kind-read (Chart c d next) r u = ap kindOf (line-read (Chart c d _) (record { spans = u; range = r }))
+  kind-read (Point x next) r u = ap kindOf (line-read (Point x _) (record { spans = u; range = r }))
+  kind-read Other r u = absurd r

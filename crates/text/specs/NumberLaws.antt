@@ -119,7 +119,7 @@ number-is s i n j e =
 
 -- a field that is read as n is a comma and n in decimal
 pub field-is : (s : List ℕ) (i n j : ℕ) → fieldAt s i ≡ Value n j → Spans s i (field n) j × (n ≤ maxNumber)
-unfolding fieldAt
+unfolding fieldAt field
 field-is s i n j e = go (wordAt comma s i) refl e
   where
     go : (f : Found) → wordAt comma s i ≡ f → onFound f (numberAt s) NoNumber ≡ Value n j → Spans s i (field n) j × (n ≤ maxNumber)

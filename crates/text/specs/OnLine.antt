@@ -4,6 +4,7 @@ use lib.IntN.{ℤ}
 use Rattle.text.specs.declared.lines.ZoneWeights.{ZoneWeights}
 use Rattle.text.specs.declared.lines.Line.{Line}
 use Rattle.text.specs.declared.lines.Line.the-variants.{Weights, Rule, Horizon, Chart, Point, Other}
+use Rattle.text.specs.declared.lines.RuleLine.{RuleLine}
 
 abbrev pub onWeights : {A : Type 0} → Line → (ZoneWeights → ℕ → A) → A → A
 onWeights (Weights w n) f other = f w n
@@ -44,3 +45,9 @@ onPoint (Horizon h n) f other = other
 onPoint (Chart c d n) f other = other
 onPoint (Point x n) f other = f x n
 onPoint Other f other = other
+
+-- what follows the line where a rule may come next: where it is none, where it is a rule, and where it cannot be read
+abbrev pub onRuleLine : {A : Type 0} → RuleLine → A → (ℕ → ℕ → ℕ → ℕ → A) → A → A
+onRuleLine RuleLine.Absent absent f unreadable = absent
+onRuleLine (RuleLine.Rule k m zones n) absent f unreadable = f k m zones n
+onRuleLine RuleLine.Unreadable absent f unreadable = unreadable

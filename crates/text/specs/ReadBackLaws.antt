@@ -110,6 +110,6 @@ number-first {s} {i} {j} (suc n) u l =
     omega (arith, o .low)
 
 pub field-read : {s : List ℕ} {i j : ℕ} (n : ℕ) → Spans s i (field n) j → n ≤ maxNumber → NoDigit (getD s j 0) → fieldAt s i ≡ Value n j
-unfolding fieldAt
+unfolding fieldAt field
 field-read n u l h =
     rw (word-read comma (spans-front comma (decimal n) u)) (number-read n (spans-back comma (decimal n) u) l h)

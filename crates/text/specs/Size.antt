@@ -7,6 +7,10 @@ use Rattle.text.specs.Word.{comma, newline, pointWord}
 abbrev pub maxText : ℕ
 maxText = 65536
 
--- the fewest bytes of a point line: its word, a comma, a digit, LF; no other line has fewer
+-- the fewest bytes of a point line: its word, a comma, a digit, LF
 abbrev pub minPoint : ℕ
 minPoint = length pointWord + length comma + 1 + length newline
+
+-- and of a line of any kind: no other is shorter
+abbrev pub minLine : ℕ
+minLine = minPoint

@@ -15,6 +15,11 @@ comma = 44 ∷ []
 abbrev pub newline : List ℕ
 newline = 10 ∷ []
 
+-- how many LFs there are
+unfoldable pub newlines : List ℕ → ℕ
+newlines [] = 0
+newlines (b ∷ bytes) = cond (eqb b 10) 1 0 + newlines bytes
+
 -- `weights`
 abbrev pub weightsWord : List ℕ
 weightsWord = 119 ∷ 101 ∷ 105 ∷ 103 ∷ 104 ∷ 116 ∷ 115 ∷ []

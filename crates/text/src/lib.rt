@@ -16,10 +16,11 @@ mod word;
 mod write;
 
 pub use lines::Line;
+pub use lines::RuleLine;
 pub use lines::ZoneWeights;
-pub use lines::begins_rule;
 pub use lines::line_at;
 pub use lines::next_of;
+pub use lines::rule_line;
 pub use reader::Reader;
 pub use reader::line;
 pub use reader::moved;

@@ -7,7 +7,8 @@ use crate::word::Found;
 use crate::word::past;
 use rules::ZONES;
 ghost use mathlib.Core.Path.{_≡_};
-ghost use Rattle.text.specs.Line.{zoneWeights, weightsFrom, ruleFrom, horizonFrom, chartFrom, pointFrom, lineAt, beginsRule};
+ghost use Rattle.text.specs.Line.{zoneWeights, weightsFrom, ruleFrom, horizonFrom, chartFrom, pointFrom};
+ghost use Rattle.text.specs.Line.{lineAt, ruleLineAt};
 ghost use Rattle.text.specs.Format.{nextOf};
 
 // A weight for each zone, from zone 0 on. An enum can hold no array.
@@ -47,6 +48,19 @@ pub enum Line {
         next: usize,
     },
     Other,
+}
+
+// The line where a rule may come next: one that does not begin with the word `rule`, one that gives a rule's three
+// numbers, or one that begins so and does not give them.
+pub enum RuleLine {
+    Absent,
+    Rule {
+        k: u32,
+        m: u32,
+        zones: u32,
+        next: usize,
+    },
+    Unreadable,
 }
 
 fn zone_weights(w: [u32; ZONES]) -> ZoneWeights
@@ -174,14 +188,17 @@ pub fn line_at(text: &[u8], at: usize) -> Line
     Line::Other
 }
 
-// Whether the line at `at` begins with the word `rule`.
-pub fn begins_rule(text: &[u8], at: usize) -> bool
-    ensures { λ t. ⌜ t ≡ beginsRule (now (text .entry)) at ⌝ }
+// The line at `at`, where a rule may come next.
+pub fn rule_line(text: &[u8], at: usize) -> RuleLine
+    ensures { λ r. ⌜ r ≡ ruleLineAt (now (text .entry)) at ⌝ }
 {
-    match past(text, at, b"rule") {
-        Found::At(_) => true,
-        Found::Absent => false,
-    }
+    let Found::At(p) = past(text, at, b"rule") else {
+        return RuleLine::Absent;
+    };
+    let Line::Rule { k, m, zones, next } = rule_from(text, p) else {
+        return RuleLine::Unreadable;
+    };
+    RuleLine::Rule { k, m, zones, next }
 }
 
 // The offset of the line behind a line, and 0 where it is none.

@@ -4,8 +4,9 @@ use mathlib.Core.Path.{_≡_, sym, _∙_}
 use native.Mathlib.Omega.{arith}
 use mir.Val.{toZ, ofZ}
 use mir.Syntax.{w32}
+use Rattle.parse.specs.ElseLaws.{else-chart}
 use Rattle.parse.proofs.PartCases.{first-is, rules-are, points-are}
-use Rattle.parse.proofs.MonitorCases.{too-long, no-chart, refused-rule, line-fits, goes-on, whole}
+use Rattle.parse.proofs.MonitorCases.{too-long, other-first, refused-rule, line-fits, goes-on, whole}
 use Rattle.parse.proofs.monitors.monitor_text.Statement.{statement}
 use Rattle.parse.proofs.monitors.monitor_text.Tie as tie
 
@@ -28,7 +29,8 @@ returns-2 : tie.Need-returns-2
 returns-2 c =
     let x = c .before .before in
     let s = x .before .before .before .args .text .now in
-    c .refused-monitor2 .ensures ∙ no-chart s (omega arith) _ (first-is s _ (x .read-parts .ensures)) (c .before .match .keys2)
+    let n = else-chart _ (c .before .match .keys2) in
+    c .refused-monitor2 .ensures ∙ other-first s (omega arith) _ (first-is s _ (x .read-parts .ensures)) n
 
 refused-monitor-requires-3 : tie.Need-refused-monitor-requires-3
 refused-monitor-requires-3 c κs = search needs

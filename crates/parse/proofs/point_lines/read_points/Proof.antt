@@ -4,7 +4,9 @@ use Prim.Native.Nat.{_-_}
 use mathlib.Core.Path.{sym, _∙_}
 use native.Mathlib.Omega.{arith}
 use lib.ListN.{length}
-use Rattle.parse.proofs.PointTurns.{PointsUpTo, points-start, point-ahead, points-more, points-done}
+use Rattle.text.specs.LineLaws.{point-ahead}
+use Rattle.parse.specs.ElseLaws.{else-point}
+use Rattle.parse.proofs.PointTurns.{PointsUpTo, points-start, points-more, points-done}
 use Rattle.parse.proofs.point_lines.read_points.Statement.{statement}
 use Rattle.parse.proofs.point_lines.read_points.Tie as tie
 
@@ -24,7 +26,9 @@ enum-known-next : tie.Need-enum-known-next Inv-loop μ-loop
 enum-known-next c = search needs
 
 returns : tie.Need-returns Inv-loop μ-loop
-returns c = points-done _ (c .before .line-at .ensures) (c .match .keys2) (c .before .before .loop .inv)
+returns c =
+    let l = c .before in
+    points-done (rw (← l .line-at .ensures) (else-point _ (c .match .keys2))) (l .before .loop .inv)
 
 add-count : tie.Need-add-count Inv-loop μ-loop
 add-count c = omega arith

@@ -2,8 +2,9 @@
 use borrow.Author.Needs.{needs}
 use mathlib.Core.Path.{sym, _∙_}
 use native.Mathlib.Omega.{arith}
+use Rattle.parse.specs.ElseLaws.{else-weights, else-horizon}
 use Rattle.parse.proofs.PartCases.{first-is, rules-are, last-is}
-use Rattle.parse.proofs.TableCases.{too-long, no-weights, refused-rule, line-fits, no-horizon, goes-on, whole}
+use Rattle.parse.proofs.TableCases.{too-long, other-first, refused-rule, line-fits, other-last, goes-on, whole}
 use Rattle.parse.proofs.tables.table_text.Statement.{statement}
 use Rattle.parse.proofs.tables.table_text.Tie as tie
 
@@ -26,7 +27,8 @@ returns-2 : tie.Need-returns-2
 returns-2 c =
     let x = c .before .before in
     let s = x .before .before .before .args .text .now in
-    c .refused-table2 .ensures ∙ no-weights s (omega arith) _ (first-is s _ (x .read-parts .ensures)) (c .before .match .keys2)
+    let n = else-weights _ (c .before .match .keys2) in
+    c .refused-table2 .ensures ∙ other-first s (omega arith) _ (first-is s _ (x .read-parts .ensures)) n
 
 refused-table-requires-3 : tie.Need-refused-table-requires-3
 refused-table-requires-3 c κs = search needs
@@ -53,7 +55,8 @@ returns-4 c =
     let s = x .before .before .before .args .text .now in
     let first = sym (first-is s _ (x .read-parts .ensures)) ∙ f .first .given .1 in
     let rules = rules-are s _ (x .read-parts .ensures) first in
-    c .refused-table4 .ensures ∙ no-horizon s (omega arith) first _ rules _ (last-is s _ (x .read-parts .ensures)) (c .before .match2 .keys2)
+    let n = else-horizon _ (c .before .match2 .keys2) in
+    c .refused-table4 .ensures ∙ other-last s (omega arith) first _ rules _ (last-is s _ (x .read-parts .ensures)) n
 
 add-refused-table : tie.Need-add-refused-table
 add-refused-table c =

@@ -23,7 +23,11 @@ same-length c = search needs
 
 returns : tie.Need-returns
 unfolding totalLine
-returns c = (search then, omega arith)
+returns c =
+    let b = c .before .before in
+    let f = b .before .before .before .before in
+    let n = f .before .before .before .before in
+    (then (then (n .put-named .ensures .0) (f .put-field .ensures .0)) (b .put-byte .ensures), omega arith)
 
 pub put-total-spec : {M : Type 1} → statement M
 put-total-spec =

@@ -9,13 +9,16 @@ use lib.ListN.{length}
 use borrow.Author.Needs.{needs}
 use Rattle.rules.specs.Check.{activeRules}
 use Rattle.monitor.specs.ZoneLaws.{zone-exists}
-use Rattle.report.specs.PointsLaws.{Charted, zone-given, signal-le, charted-start, point-ahead, points-left, charted-more, charted-done}
+use Rattle.text.specs.LineLaws.{point-ahead}
+use Rattle.report.specs.PointsWritten.{PointsWritten}
+use Rattle.report.specs.PointsLaws.{zone-given, signal-le, written-start, points-left, written-more, written-done}
+use Rattle.parse.specs.ElseLaws.{else-point}
 use Rattle.report.proofs.points.put_points.Statement.{statement}
 use Rattle.report.proofs.points.put_points.Tie as tie
 
 abbrev Inv-loop : tie.InvT-loop
 Inv-loop out₀ text at list chart monitor₀ i₀ end₀ points₀ signals₀ out monitor i end points signals =
-    Charted text at (activeRules list) (chart .centre) (chart .sigma) out₀ out i end points signals monitor
+    PointsWritten text at (activeRules list) (chart .centre) (chart .sigma) out₀ out i end points signals monitor
 
 abbrev μ-loop : tie.MeasureT-loop
 μ-loop out₀ text at list chart monitor₀ i₀ end₀ points₀ signals₀ out monitor i end points signals = length text - i
@@ -24,7 +27,7 @@ fresh-requires : tie.Need-fresh-requires Inv-loop μ-loop
 fresh-requires c κs = search needs
 
 loop-holds : tie.Need-loop-holds Inv-loop μ-loop
-loop-holds c = rw (c .fresh .ensures) (charted-start (c .before .before .before .pre .0 .1))
+loop-holds c = rw (c .fresh .ensures) (written-start (c .before .before .before .pre .0 .1))
 
 line-at-requires : tie.Need-line-at-requires Inv-loop μ-loop
 line-at-requires c κs = search needs
@@ -42,7 +45,8 @@ returns : tie.Need-returns Inv-loop μ-loop
 returns c =
     let t = c .before .before in
     let k = t .before .before .before in
-    charted-done (k .before .loop .inv) _ (k .line-at .ensures) (t .before .before .match .keys2) _ (t .put-total .ensures .0)
+    let n = else-point _ (t .before .before .match .keys2) in
+    written-done (k .before .loop .inv) (rw (← k .line-at .ensures) n) _ (t .put-total .ensures .0)
 
 zone-at-requires : tie.Need-zone-at-requires Inv-loop μ-loop
 zone-at-requires c κs = search needs
@@ -62,8 +66,8 @@ take-requires c κs =
     let zone = z .zone-at .ensures ∙ zone-given x centre (chart .sigma) in
     ((start .pre .0 .0, start .pre .0 .1, omega (arith, zone, zone-exists (k .reading .given .0 .0 -ℤ chart .centre) (chart .sigma)), omega (arith, u .counted, u .fit, start .pre .1 .1 .0)), u .valid)
 
-put-answer-requires : tie.Need-put-answer-requires Inv-loop μ-loop
-put-answer-requires c κs =
+put-point-requires : tie.Need-put-point-requires Inv-loop μ-loop
+put-point-requires c κs =
     let k = c .before .before .before .before .before .before in
     let l = points-left (k .before .before .before .loop .inv) _ _ (sym (k .before .before .line-at .ensures) ∙ k .reading .given .1) in
     omega (arith, l, k .before .before .before .loop .inv .room, k .before .before .before .loop .inv .size)
@@ -99,8 +103,11 @@ loop-again c =
     let x : toZ w32 (ofZ w32 (k .reading .given .0 .0)) ≡ k .reading .given .0 .0 = search needs in
     let centre : toZ w32 (ofZ w32 (chart .centre)) ≡ chart .centre = search needs in
     let zone = z .zone-at .ensures ∙ zone-given x centre (chart .sigma) in
-    charted-more (k .before .before .before .loop .inv) (k .before .before .before .before .before .before .before .pre .0 .1) _ _ (sym (k .before .before .line-at .ensures) ∙ k .reading .given .1) _ zone _ (t .take .ensures) _ _
-    (w .put-answer .ensures .0) (w .put-answer .ensures .1) (c .before .one-signal .ensures)
+    let l = k .before .before in
+    let found = sym (l .line-at .ensures) ∙ k .reading .given .1 in
+    let bounds = l .before .before .before .before .before .pre .0 .1 in
+    written-more (l .before .loop .inv) bounds _ _ found _ zone _ (t .take .ensures) _ _
+    (w .put-point .ensures .0) (w .put-point .ensures .1) (c .before .one-signal .ensures)
 
 pub put-points-spec : {M : Type 1} → statement M
 put-points-spec =
@@ -118,7 +125,7 @@ put-points-spec =
     zone-at-requires
     add-count
     take-requires
-    put-answer-requires
+    put-point-requires
     one-signal-requires
     add-signals
     add-points

@@ -4,15 +4,12 @@ use mathlib.Core.Path.{_≡_, refl}
 use mathlib.Core.List.{List, [], _∷_, _++_}
 use native.Mathlib.Omega.{arith}
 use lib.IntN.{ℤ, pos, negsuc}
-use lib.ListN.{length}
 use borrow.Author.Tests.{ne-eqb}
-use Rattle.rules.specs.declared.Rule.{Rule}
 use Rattle.text.specs.declared.lines.Line.{Line}
-use Rattle.text.specs.declared.lines.Line.the-variants.{Weights, Rule as RuleLine, Horizon, Chart, Point, Other}
+use Rattle.text.specs.declared.lines.Line.the-variants.{Weights, Rule, Horizon, Chart, Point, Other}
 use Rattle.text.specs.Decimal.{digitByte, digitsOf, decimal, signedDecimal}
 use Rattle.text.specs.Format.{field, signedField, fields, bytesOf, NotOther}
-use Rattle.text.specs.Word.{weightsWord, ruleWord, horizonWord, chartWord, pointWord}
-use Rattle.program_claims.specs.Texts.{ruleLine, ruleLines, pointLine, pointLines, newlines}
+use Rattle.text.specs.Word.{newlines, weightsWord, ruleWord, horizonWord, chartWord, pointWord}
 
 pub newlines-append : (xs ys : List ℕ) → newlines (xs ++ ys) ≡ newlines xs + newlines ys
 unfolding newlines
@@ -38,7 +35,7 @@ newlines-signed (pos n) = newlines-decimal n
 newlines-signed (negsuc n) = omega (arith, newlines-decimal (suc n))
 
 newlines-field : (n : ℕ) → newlines (field n) ≡ 0
-unfolding newlines
+unfolding newlines field
 newlines-field n = omega (arith, newlines-decimal n)
 
 newlines-signed-field : (x : ℤ) → newlines (signedField x) ≡ 0
@@ -54,7 +51,7 @@ newlines-fields (n ∷ ns) = omega (arith, newlines-append (field n) (fields ns)
 pub newlines-line : (l : Line) → NotOther l → newlines (bytesOf l) ≡ 1
 unfolding newlines
 newlines-line (Weights w next) o = rw (newlines-append, newlines-append weightsWord, newlines-fields)
-newlines-line (RuleLine k m zones next) o =
+newlines-line (Rule k m zones next) o =
     rw (
       newlines-append,
       newlines-append (ruleWord ++ field k ++ field m) (field zones),
@@ -66,16 +63,12 @@ newlines-line (RuleLine k m zones next) o =
     )
 newlines-line (Horizon h next) o = rw (newlines-append, newlines-append horizonWord, newlines-field)
 newlines-line (Chart centre sigma next) o =
-    rw (newlines-append, newlines-append (chartWord ++ signedField centre) (field sigma), newlines-append chartWord (signedField centre), newlines-signed-field, newlines-field)
+    rw (
+      newlines-append,
+      newlines-append (chartWord ++ signedField centre) (field sigma),
+      newlines-append chartWord (signedField centre),
+      newlines-signed-field,
+      newlines-field,
+    )
 newlines-line (Point x next) o = rw (newlines-append, newlines-append pointWord, newlines-signed-field)
 newlines-line Other o = absurd o
-
-pub newlines-rules : (rs : List Rule) → newlines (ruleLines rs) ≡ length rs
-unfolding newlines ruleLines
-newlines-rules [] = refl
-newlines-rules (r ∷ rs) = omega (arith, newlines-append (bytesOf (ruleLine r)) (ruleLines rs), newlines-line (ruleLine r) tt, newlines-rules rs)
-
-pub newlines-points : (xs : List ℤ) → newlines (pointLines xs) ≡ length xs
-unfolding newlines pointLines
-newlines-points [] = refl
-newlines-points (x ∷ xs) = omega (arith, newlines-append (bytesOf (pointLine x)) (pointLines xs), newlines-line (pointLine x) tt, newlines-points xs)
