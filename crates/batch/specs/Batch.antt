@@ -1,4 +1,4 @@
--- Readings taken one after another until one signals, one is refused, or none is left. Definitions, and a working one.
+-- TO BELIEVE: readings taken one after another until one signals, one is refused, or none is left. Definitions, and a working one.
 use Prim.Native.Nat.{ℕ, _+_}
 use mathlib.Core.Path.{_≡_}
 use mathlib.Core.List.{List, [], _∷_}

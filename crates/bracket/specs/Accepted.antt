@@ -1,4 +1,4 @@
--- The calls that no refusal applies to. Definition.
+-- The calls that no refusal applies to. Working definition.
 use Prim.Native.Nat.{ℕ, _≤_}
 use mathlib.Core.List.{List}
 use lib.ListN.{length}

@@ -1,4 +1,4 @@
--- The bounds of the bracket's number of states and percent, each written here once. Definitions.
+-- TO BELIEVE: the bounds of the bracket's number of states and percent, each written here once. Definitions.
 use Prim.Native.Nat.{ℕ}
 
 -- document 01's N

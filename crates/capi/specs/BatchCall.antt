@@ -1,4 +1,4 @@
--- A call of a batch of readings. Definitions.
+-- TO BELIEVE: a call of a batch of readings. Definitions.
 use Prim.Native.Nat.{ℕ}
 use mathlib.Core.Path.{_≡_}
 use mathlib.Core.Bool.{cond}

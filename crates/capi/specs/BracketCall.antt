@@ -1,4 +1,4 @@
--- A call of the percentile bracket. Definitions.
+-- TO BELIEVE: a call of the percentile bracket. Definitions.
 use Prim.Native.Nat.{ℕ}
 use mathlib.Core.Path.{_≡_}
 use mathlib.Core.List.{List}

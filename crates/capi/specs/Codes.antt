@@ -1,4 +1,4 @@
--- A refusal as one number, and a rule list as a caller passes it. Definitions.
+-- TO BELIEVE: a refusal as one number, and a rule list as a caller passes it. Definitions.
 use Prim.Native.Nat.{ℕ, _+_, _*_}
 use mathlib.Core.List.{List, [], _∷_}
 use lib.ListN.{getD}

@@ -1,4 +1,4 @@
--- Calls of the zone and of the monitor's step. Definitions.
+-- TO BELIEVE: calls of the zone and of the monitor's step. Definitions.
 use Prim.Native.Nat.{ℕ}
 use mathlib.Core.Path.{_≡_}
 use mathlib.Core.List.{List}

@@ -1,4 +1,4 @@
--- A call of the plot record. Definitions.
+-- TO BELIEVE: a call of the plot record. Definitions.
 use Prim.Native.Nat.{ℕ, _+_, _*_}
 use mathlib.Core.Path.{_≡_}
 use mathlib.Core.List.{List}

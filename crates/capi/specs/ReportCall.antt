@@ -1,4 +1,4 @@
--- A call of a program's report. Definitions.
+-- TO BELIEVE: a call of a program's report. Definitions.
 use Prim.Native.Nat.{ℕ}
 use mathlib.Core.Path.{_≡_}
 use mathlib.Core.List.{List}

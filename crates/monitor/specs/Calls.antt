@@ -1,4 +1,4 @@
--- A list of monitor calls with one rule list, each getting the state and count of the last accepted one. Definitions.
+-- TO BELIEVE: a list of monitor calls with one rule list, each getting the state and count of the last accepted one. Definitions.
 use Prim.Native.Nat.{ℕ}
 use mathlib.Core.List.{List, [], _∷_}
 use Rattle.rules.specs.declared.RuleList.{RuleList}

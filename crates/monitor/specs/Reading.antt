@@ -1,4 +1,4 @@
--- A reading on a chart: its zone, and the step in that zone. Refusals in the order 2, 3, 4; 1; 5; 7. Definitions; below
+-- TO BELIEVE: a reading on a chart: its zone, and the step in that zone. Refusals in the order 2, 3, 4; 1; 5; 7. Definitions; below
 -- them what the taking of readings goes by.
 use Prim.Native.Nat.{ℕ}
 use mathlib.Core.Path.{_≡_}

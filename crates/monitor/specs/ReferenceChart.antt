@@ -1,4 +1,4 @@
--- Document 01's plain chart, from its own paragraph alone: a row of zones, the newest first. Definitions.
+-- TO BELIEVE: Document 01's plain chart, from its own paragraph alone: a row of zones, the newest first. Definitions.
 use Prim.Native.Nat.{ℕ, _+_}
 use mathlib.Core.Bool.{Bool, cond}
 use mathlib.Core.List.{List, [], _∷_, map}

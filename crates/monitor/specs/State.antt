@@ -1,4 +1,4 @@
--- Document 01's standing: the remembered hits of all rules, as one number whose digit i in base `windowBase` is the window of rule i.
+-- TO BELIEVE: Document 01's standing: the remembered hits of all rules, as one number whose digit i in base `windowBase` is the window of rule i.
 -- Definitions.
 use Prim.Native.Nat.{ℕ, _+_, _*_, _/_, _%_}
 use mathlib.Core.Bool.{Bool, false, cond}

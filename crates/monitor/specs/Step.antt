@@ -1,4 +1,4 @@
--- The monitor's step. Refusals in the order 2, 3, 4; 6; 5; 7. Definitions.
+-- TO BELIEVE: the monitor's step. Refusals in the order 2, 3, 4; 6; 5; 7. Definitions.
 use Prim.Native.Nat.{ℕ, _+_}
 use mathlib.Core.Bool.{Bool, cond}
 use mathlib.Core.List.{List}

@@ -1,4 +1,4 @@
--- A point where nothing can be refused: its mask, and the monitor after it. Definitions.
+-- A point where nothing can be refused: its mask, and the monitor after it. Working definitions.
 use Prim.Native.Nat.{ℕ, _+_}
 use mathlib.Core.Bool.{cond}
 use mathlib.Core.List.{List, [], _∷_}

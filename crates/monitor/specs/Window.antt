@@ -1,4 +1,4 @@
--- One rule's window: document 01's remembered hits of one rule, as a number whose digit a - 1 in base 2 is the hit of age a. The latest
+-- TO BELIEVE: one rule's window: document 01's remembered hits of one rule, as a number whose digit a - 1 in base 2 is the hit of age a. The latest
 -- point has age 1. Definitions.
 use Prim.Native.Nat.{ℕ, zero, suc, _+_, _-_, _*_, _/_, _%_, _^_, min}
 use mathlib.Core.Bool.{Bool, false, cond}

@@ -1,4 +1,4 @@
--- The zone of a reading. Definitions.
+-- TO BELIEVE: the zone of a reading. Definitions.
 use Prim.Native.Nat.{ℕ, suc, _*_}
 use mathlib.Core.Bool.{cond}
 use lib.Dec.{leb}

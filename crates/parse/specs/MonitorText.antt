@@ -1,4 +1,4 @@
--- The monitor program's text, read whole. Definitions.
+-- TO BELIEVE: the monitor program's text, read whole. Definitions.
 use Prim.Native.Nat.{ℕ, _+_}
 use mathlib.Core.Bool.{cond}
 use mathlib.Core.List.{List, []}

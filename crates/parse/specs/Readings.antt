@@ -1,4 +1,4 @@
--- The readings of the point lines that stand in a row from an offset on. Definitions.
+-- TO BELIEVE: the readings of the point lines that stand in a row from an offset on. Definitions.
 use Prim.Native.Nat.{ℕ, zero, suc}
 use mathlib.Core.List.{List, [], _∷_}
 use lib.ListN.{length}

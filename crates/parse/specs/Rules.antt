@@ -1,4 +1,4 @@
--- The rules of the rule lines that stand in a row from an offset on, and the list that holds them. Definitions.
+-- TO BELIEVE: the rules of the rule lines that stand in a row from an offset on, and the list that holds them. Definitions.
 use Prim.Native.Nat.{ℕ, zero, suc, _+_}
 use mathlib.Core.Bool.{cond}
 use mathlib.Core.List.{List, [], _∷_}

@@ -1,4 +1,4 @@
--- Doubles that are shown exact. Definitions.
+-- TO BELIEVE: doubles that are shown exact. Definitions.
 use mathlib.Core.Path.{_≡_}
 use mathlib.Core.Bool.{false}
 use Prim.Native.Nat.{ℕ}

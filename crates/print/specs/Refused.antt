@@ -1,4 +1,4 @@
--- The line of a refused text. Definitions.
+-- TO BELIEVE: the line of a refused text. Definitions.
 use Prim.Native.Nat.{ℕ, _+_}
 use mathlib.Core.List.{List, [], _∷_, _++_}
 use lib.ListN.{length}

@@ -1,4 +1,4 @@
--- What holds while the rows are written. Definition.
+-- What holds while the rows are written. Working definition.
 use Prim.Native.Nat.{ℕ, _+_, _*_, _≤_}
 use mathlib.Core.Path.{_≡_}
 use mathlib.Core.List.{List}

@@ -1,4 +1,4 @@
--- What a text's printed bytes are claimed to be: one refusal line and its reason, or the lines of figures that demands 2 and 3 speak of. Definitions.
+-- TO BELIEVE: what a text's printed bytes are claimed to be: one refusal line and its reason, or the lines of figures that demands 2 and 3 speak of. Definitions.
 use Prim.Native.Nat.{ℕ, zero, suc, _+_, _-_, _*_, _/_, _^_, _≤_, _<_}
 use mathlib.Core.Path.{_≡_}
 use mathlib.Core.List.{List, [], _∷_, _++_}

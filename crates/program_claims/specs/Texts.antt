@@ -1,4 +1,4 @@
--- The bytes of a whole text, line by line, and where a text goes wrong: nothing here reads at an offset. Definitions.
+-- TO BELIEVE: the bytes of a whole text, line by line, and where a text goes wrong: nothing here reads at an offset. Definitions.
 use Prim.Native.Nat.{ℕ, _+_, _≤_, _<_}
 use mathlib.Core.Path.{_≡_}
 use mathlib.Core.List.{List, [], _∷_, _++_}

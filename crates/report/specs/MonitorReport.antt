@@ -1,4 +1,4 @@
--- What the monitor program prints for a text. Definitions.
+-- TO BELIEVE: what the monitor program prints for a text. Definitions.
 use Prim.Native.Nat.{ℕ}
 use mathlib.Core.List.{List}
 use lib.Dec.{eqb}

@@ -1,4 +1,4 @@
--- The lines of a list of readings on a chart. Definitions.
+-- TO BELIEVE: the lines of a list of readings on a chart. Definitions.
 use Prim.Native.Nat.{ℕ, _+_, _*_, _/_}
 use mathlib.Core.List.{List, [], _∷_, _++_}
 use lib.ListN.{length}

@@ -1,4 +1,4 @@
--- What a program prints, and what a report leaves in the lent buffer. Definitions.
+-- TO BELIEVE: what a program prints, and what a report leaves in the lent buffer. Definitions.
 use Prim.Native.Nat.{ℕ, _≤_}
 use mathlib.Core.Path.{_≡_}
 use mathlib.Core.List.{List, _++_}

@@ -1,4 +1,4 @@
--- Moves grouped by target: an edge is a target and a share of weight, in two lists. Definitions, and what the code over them asks and leaves.
+-- Moves grouped by target: an edge is a target and a share of weight, in two lists. Working definitions, and what the code over them asks and leaves.
 use mathlib.Core.Path.{_≡_}
 use mathlib.Core.Bool.{cond}
 use mathlib.Core.List.{List}

@@ -1,4 +1,4 @@
--- What the states send along their edges in one point. Definitions, and what the code of a row asks and leaves.
+-- What the states send along their edges in one point. Working definitions, and what the code of a row asks and leaves.
 use mathlib.Core.Path.{_≡_}
 use mathlib.Core.List.{List}
 use Prim.Native.Nat.{ℕ, _+_, _*_, _/_, _≤_, _<_}

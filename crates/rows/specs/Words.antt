@@ -1,4 +1,4 @@
--- Sums of units × weight, which reach 2^90, in two words each: hi * 2^30 + lo. Definitions, and what the code over them asks and leaves.
+-- Sums of units × weight, which reach 2^90, in two words each: hi * 2^30 + lo. Working definitions, and what the code over them asks and leaves.
 use mathlib.Core.Path.{_≡_}
 use mathlib.Core.List.{List}
 use Prim.Native.Nat.{ℕ, _+_, _*_, _≤_, _<_}

@@ -1,4 +1,4 @@
--- The number of zones, the largest number, and the bounds of a rule list, each written here once. Definitions.
+-- TO BELIEVE: the number of zones, the largest number, and the bounds of a rule list, each written here once. Definitions.
 use Prim.Native.Nat.{ℕ, _-_, _^_}
 
 -- zones are the numbers below it

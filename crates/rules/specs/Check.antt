@@ -1,4 +1,4 @@
--- The check of a rule list: 2, none or too many; then rule by rule 3, then 4. Definitions.
+-- TO BELIEVE: the check of a rule list: 2, none or too many; then rule by rule 3, then 4. Definitions.
 use Prim.Native.Nat.{ℕ, zero, suc, _+_}
 use mathlib.Core.Bool.{Bool, false, cond}
 use mathlib.Core.List.{List, [], _∷_}

@@ -1,4 +1,4 @@
--- What an accepted list has: every rule's numbers in bounds. The precondition of what runs after the check. Definitions.
+-- What an accepted list has: every rule's numbers in bounds. The precondition of what runs after the check. Working definitions.
 use Prim.Native.Nat.{_≤_}
 use mathlib.Core.List.{List, [], _∷_}
 use Rattle.rules.specs.declared.Rule.{Rule}

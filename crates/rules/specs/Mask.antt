@@ -1,4 +1,4 @@
--- The mask of a list of tests. Definitions.
+-- TO BELIEVE: the mask of a list of tests. Definitions.
 use Prim.Native.Nat.{ℕ, _+_, _*_}
 use mathlib.Core.Bool.{Bool, true, false}
 use mathlib.Core.List.{List, [], _∷_}

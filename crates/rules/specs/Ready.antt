@@ -1,4 +1,4 @@
--- The two ready lists: the length and every slot. Definitions.
+-- TO BELIEVE: the two ready lists: the length and every slot. Definitions.
 use Prim.Native.Nat.{ℕ}
 use mathlib.Core.List.{[], _∷_}
 use Rattle.rules.specs.declared.Rule.{Rule}

@@ -1,4 +1,4 @@
--- A chart as an automaton moved by zones, and the exact distribution of its run length: sums over all sequences of zones, in whole
+-- TO BELIEVE: a chart as an automaton moved by zones, and the exact distribution of its run length: sums over all sequences of zones, in whole
 -- numbers. Its states may be infinitely many. Definitions.
 use Prim.Native.Nat.{ℕ, zero, suc, _+_, _*_}
 use mathlib.Core.Bool.{Bool, true, false, not}

@@ -1,4 +1,4 @@
--- A chart with finitely many states, and document 01's round-down table of its run length. Definitions.
+-- TO BELIEVE: a chart with finitely many states, and document 01's round-down table of its run length. Definitions.
 use Prim.Native.Nat.{ℕ, zero, suc, _+_, _-_, _*_, _/_, _<_}
 use mathlib.Core.Path.{_≡_}
 use lib.Dec.{eqb}

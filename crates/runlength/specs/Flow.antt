@@ -1,4 +1,4 @@
--- One point of a chart forwards and backwards: what flows on from the states, and what a state is worth by where it leads. Definitions.
+-- One point of a chart forwards and backwards: what flows on from the states, and what a state is worth by where it leads. Working definitions.
 use Prim.Native.Nat.{ℕ, zero, suc, _*_}
 use lib.Dec.{eqb}
 use Rattle.runlength.specs.Sum.{sum, only, sumSequences}

@@ -1,4 +1,4 @@
--- A chain given by the list of its moves. Definitions.
+-- TO BELIEVE: a chain given by the list of its moves. Definitions.
 use Prim.Native.Nat.{ℕ, _+_, _*_}
 use mathlib.Core.Bool.{cond}
 use mathlib.Core.List.{List}

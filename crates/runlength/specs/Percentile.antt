@@ -1,4 +1,4 @@
--- The percentile of a run length, by a test that says whether the cdf has reached it, and what two bounds say of it. Definitions.
+-- TO BELIEVE: the percentile of a run length, by a test that says whether the cdf has reached it, and what two bounds say of it. Definitions.
 use mathlib.Core.Bool.{Bool, cond}
 use mathlib.Core.Option.{Option, none, some}
 use Prim.Native.Nat.{ℕ, zero, suc, _≤_, _<_}

@@ -1,4 +1,4 @@
--- Document 01's scales and the longest horizon, each written here once. Definitions.
+-- TO BELIEVE: Document 01's scales and the longest horizon, each written here once. Definitions.
 use Prim.Native.Nat.{ℕ, _^_}
 
 -- probability one for a single point: what the weights of the zones sum to

@@ -1,4 +1,4 @@
--- Sequences of zones. Definitions.
+-- TO BELIEVE: sequences of zones. Definitions.
 use Prim.Native.Nat.{ℕ, _<_}
 use mathlib.Core.List.{List, [], _∷_}
 

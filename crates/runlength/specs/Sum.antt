@@ -1,4 +1,4 @@
--- Finite sums and finite lists of a function of the index. Definitions.
+-- TO BELIEVE: finite sums and finite lists of a function of the index. Definitions.
 use Prim.Native.Nat.{ℕ, zero, suc, _+_}
 use mathlib.Core.Bool.{Bool, true, false}
 use mathlib.Core.List.{List, [], _∷_, _++_}

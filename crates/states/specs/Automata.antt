@@ -1,4 +1,4 @@
--- The chart of a rule list as two automata: by the state that the monitor keeps, and by the whole row of zones. Definitions.
+-- TO BELIEVE: the chart of a rule list as two automata: by the state that the monitor keeps, and by the whole row of zones. Definitions.
 use Prim.Native.Nat.{ℕ}
 use mathlib.Core.Bool.{cond}
 use mathlib.Core.List.{List, [], _∷_}

@@ -1,4 +1,4 @@
--- What exploring asks for and what it answers. Definitions.
+-- What exploring asks for and what it answers. Working definitions.
 use Prim.Native.Nat.{ℕ, _+_, _*_, _/_, _<_, _≤_}
 use mathlib.Core.Path.{_≡_}
 use mathlib.Core.List.{List}

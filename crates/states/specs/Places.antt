@@ -1,4 +1,4 @@
--- What is said of a list of states and of the entries of their moves. Definitions.
+-- What is said of a list of states and of the entries of their moves. Working definitions.
 use Prim.Native.Nat.{ℕ, _/_, _%_, _<_}
 use mathlib.Core.Path.{_≡_}
 use mathlib.Core.List.{List}

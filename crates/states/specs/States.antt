@@ -1,4 +1,4 @@
--- The states met from the start with no signal, in the order in which a worklist finds them, and their moves. Definitions.
+-- TO BELIEVE: the states met from the start with no signal, in the order in which a worklist finds them, and their moves. Definitions.
 use Prim.Native.Nat.{ℕ, zero, suc, _*_, _/_, _%_, _<_}
 use mathlib.Core.Path.{_≡_}
 use mathlib.Core.Bool.{Bool, cond, _&&_}

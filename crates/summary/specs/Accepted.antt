@@ -1,4 +1,4 @@
--- What a summary is made of, and what an accepted one has. Definitions.
+-- What a summary is made of, and what an accepted one has. Working definitions.
 use mathlib.Core.Path.{_≡_}
 use mathlib.Core.List.{List}
 use Prim.Native.Nat.{ℕ, _≤_}

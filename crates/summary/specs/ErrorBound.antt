@@ -1,4 +1,4 @@
--- The size of the error bound: its products fit 64 bits. Definition and laws.
+-- The size of the error bound: its products fit 64 bits. Working definition and laws.
 use Prim.Native.Nat.{ℕ, _-_, _*_, _≤_}
 use native.Mathlib.Nat.{mul-le-mul}
 use native.Mathlib.Omega.{arith}

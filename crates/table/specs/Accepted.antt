@@ -1,4 +1,4 @@
--- What a chart and a table call that are accepted have: all that the layers above may use. Definitions.
+-- What a chart and a table call that are accepted have: all that the layers above may use. Working definitions.
 use mathlib.Core.Path.{_≡_}
 use mathlib.Core.List.{List}
 use Prim.Native.Nat.{ℕ, suc, _≤_, _<_}

@@ -1,4 +1,4 @@
--- Numbers as bytes: decimal, without needless zeros; a minus before a number below 0; the bounds of signed numbers. Definitions.
+-- TO BELIEVE: numbers as bytes: decimal, without needless zeros; a minus before a number below 0; the bounds of signed numbers. Definitions.
 use Prim.Native.Nat.{ℕ, zero, suc, _+_, _-_, _/_, _%_, _^_}
 use mathlib.Core.List.{List, [], _∷_, _++_}
 use lib.IntN.{ℤ, pos, negsuc}

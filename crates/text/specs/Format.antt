@@ -1,4 +1,4 @@
--- The format: the bytes that each kind of line is. Definitions.
+-- TO BELIEVE: the format: the bytes that each kind of line is. Definitions.
 use Prim.Native.Nat.{ℕ, suc, _≤_}
 use mathlib.Core.List.{List, [], _∷_, _++_}
 use lib.IntN.{ℤ, pos, negsuc}

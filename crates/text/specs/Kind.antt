@@ -1,4 +1,4 @@
--- The kinds of lines. Definitions.
+-- The kinds of lines. Working definitions.
 use Prim.Native.Nat.{ℕ}
 use mathlib.Core.Path.{_≡_}
 use mathlib.Core.Bool.{cond}

@@ -1,4 +1,4 @@
--- Reading a line at an offset of a text: a keyword, its fields, and LF. Definitions; LineLaws says which bytes each line is.
+-- Reading a line at an offset of a text: a keyword, its fields, and LF. Working definitions; LineLaws says which bytes each line is.
 use Prim.Native.Nat.{ℕ, zero, suc}
 use mathlib.Core.List.{List, [], _∷_, _++_}
 use lib.ListN.{getD}

@@ -1,4 +1,4 @@
--- Reading a number at an offset of a text. Definitions; NumberLaws says that what is read as n is n in decimal.
+-- Reading a number at an offset of a text. Working definitions; NumberLaws says that what is read as n is n in decimal.
 use Prim.Native.Nat.{ℕ, _+_, _-_, _*_, _<_}
 use mathlib.Core.Path.{_≡_}
 use mathlib.Core.Bool.{cond}

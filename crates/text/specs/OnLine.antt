@@ -1,4 +1,4 @@
--- What follows a line of one kind, and what follows any other line: for definitions over what is read. Definitions.
+-- What follows a line of one kind, and what follows any other line: for definitions over what is read. Working definitions.
 use Prim.Native.Nat.{ℕ}
 use lib.IntN.{ℤ}
 use Rattle.text.specs.declared.lines.ZoneWeights.{ZoneWeights}

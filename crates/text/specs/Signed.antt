@@ -1,4 +1,4 @@
--- Reading a signed number at an offset of a text: a minus and a number other than 0, or a number. Definitions.
+-- Reading a signed number at an offset of a text: a minus and a number other than 0, or a number. Working definitions.
 use Prim.Native.Nat.{ℕ, _+_, _-_}
 use mathlib.Core.Bool.{cond}
 use mathlib.Core.List.{List}

@@ -1,4 +1,4 @@
--- The longest text that is read, and its shortest line. Definitions.
+-- TO BELIEVE: the longest text that is read, and its shortest line. Definitions.
 use Prim.Native.Nat.{ℕ, _+_}
 use lib.ListN.{length}
 use Rattle.text.specs.Word.{comma, newline, pointWord}

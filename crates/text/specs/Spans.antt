@@ -1,4 +1,4 @@
--- Bytes that stand in a text. Definition.
+-- TO BELIEVE: bytes that stand in a text. Definition.
 use Prim.Native.Nat.{ℕ, _+_}
 use mathlib.Core.Path.{_≡_}
 use mathlib.Core.List.{List, _++_}

@@ -1,4 +1,4 @@
--- Words of the text: the separators, the keywords, and what stands at an offset. Definitions.
+-- TO BELIEVE: words of the text: the separators, the keywords, and what stands at an offset. Definitions.
 use Prim.Native.Nat.{ℕ, _+_}
 use mathlib.Core.Bool.{cond}
 use mathlib.Core.List.{List, [], _∷_}

@@ -1,4 +1,4 @@
--- What a function that writes into a buffer says of it. Definition.
+-- What a function that writes into a buffer says of it. Working definition.
 use Prim.Native.Nat.{ℕ, _+_, _≤_}
 use mathlib.Core.Path.{_≡_}
 use mathlib.Core.List.{List, _++_}
