@@ -8,11 +8,11 @@ use Rattle.bracket.specs.Limits.{minStates, minPercent, maxPercent}
 use Rattle.runlength.specs.Chain.{cdfOf}
 
 -- none of 12 to 15 applies
-pub record Accepted (pmf : List ℕ) (states p : ℕ) : Type 0 where
+pub record Accepted (pmf : List ℕ) (count p : ℕ) : Type 0 where
   pub not-empty : minHorizon ≤ length pmf
   pub short : length pmf ≤ maxHorizon
-  pub some-states : minStates ≤ states
-  pub few-states : states ≤ maxStates
+  pub some-states : minStates ≤ count
+  pub few-states : count ≤ maxStates
   pub some-percent : minPercent ≤ p
   pub part-percent : p ≤ maxPercent
   pub total : cdfOf pmf (length pmf) ≤ unitsPerOne

@@ -35,7 +35,7 @@ highTest pmf p = reaches (cdfOf pmf) p
 
 -- low: 100 × (by + n × (N + 1)) > p × 2^60
 abbrev pub lowTest : List ℕ → ℕ → ℕ → ℕ → Bool
-lowTest pmf states p = passes (λ n. cdfOf pmf n + n * (states + 1)) p
+lowTest pmf count p = passes (λ n. cdfOf pmf n + n * (count + 1)) p
 
 -- by low and high, of a list of h chances: at n where they are equal, else between; open with no high, beyond h with neither
 unfoldable pub placeBy : Option ℕ → Option ℕ → ℕ → Place
@@ -45,17 +45,17 @@ placeBy (some low) (some high) h = cond (eqb low high) (At low) (Between low hig
 
 -- by the least n, from 1 to the list's length, that pass the two tests
 unfoldable pub percentilePlace : List ℕ → ℕ → ℕ → Place
-percentilePlace pmf states p =
-    placeBy (least (lowTest pmf states p) (length pmf)) (least (highTest pmf p) (length pmf)) (length pmf)
+percentilePlace pmf count p =
+    placeBy (least (lowTest pmf count p) (length pmf)) (least (highTest pmf p) (length pmf)) (length pmf)
 
 -- 12, 13, 14 or 15, the first that applies; else the place
 unfoldable pub bracketOf : List ℕ → ℕ → ℕ → BracketAnswer
-bracketOf pmf states p =
+bracketOf pmf count p =
     cond (within minHorizon maxHorizon (length pmf))
-    (cond (within minStates maxStates states)
+    (cond (within minStates maxStates count)
     (cond (within minPercent maxPercent p)
     (cond (leb (cdfOf pmf (length pmf)) unitsPerOne)
-    (Accepted (percentilePlace pmf states p))
+    (Accepted (percentilePlace pmf count p))
     (Refused badTotal))
     (Refused badPercent))
     (Refused badStateCount))

@@ -21,9 +21,9 @@ use Rattle.bracket.specs.Accepted as Call
 use Rattle.bracket.specs.RefusedLaws.{answered}
 
 -- an accepted call is answered by its place
-pub accepted-bracket : (pmf : List ℕ) (states p : ℕ) → Call.Accepted pmf states p → bracketOf pmf states p ≡ Accepted (percentilePlace pmf states p)
-accepted-bracket pmf states p a =
-    answered pmf states p (a .not-empty) (a .short) (a .some-states) (a .few-states) (a .some-percent) (a .part-percent)
+pub accepted-bracket : (pmf : List ℕ) (count p : ℕ) → Call.Accepted pmf count p → bracketOf pmf count p ≡ Accepted (percentilePlace pmf count p)
+accepted-bracket pmf count p a =
+    answered pmf count p (a .not-empty) (a .short) (a .some-states) (a .few-states) (a .some-percent) (a .part-percent)
     (le-leb (cdfOf pmf (length pmf)) unitsPerOne (a .total))
 
 -- what the two bounds contain, the place that they make contains
@@ -63,19 +63,19 @@ module _ {low : Option ℕ} (high : Option ℕ) (h : ℕ) where
 over : (a x s : ℕ) → a ≤ percentsPerOne * x → 1 ≤ s → a < percentsPerOne * (x + s)
 over a x s h l = omega arith
 
-module _ (pmf : List ℕ) (states p : ℕ) where
+module _ (pmf : List ℕ) (count p : ℕ) where
   -- what passes the high test passes the low test
-  pub high-low : (n : ℕ) → 1 ≤ n → T (highTest pmf p n) → T (lowTest pmf states p n)
+  pub high-low : (n : ℕ) → 1 ≤ n → T (highTest pmf p n) → T (lowTest pmf count p n)
   unfolding reaches passes
   high-low n i t =
-      lt→ltb _ _ (over (p * unitsPerOne) (cdfOf pmf n) (n * (states + 1)) (leb→le _ _ t) (mul-le-mul {n₁ = 1} {m₁ = 1} {n₂ = n} {m₂ = states + 1} i (omega arith)))
+      lt→ltb _ _ (over (p * unitsPerOne) (cdfOf pmf n) (n * (count + 1)) (leb→le _ _ t) (mul-le-mul {n₁ = 1} {m₁ = 1} {n₂ = n} {m₂ = count + 1} i (omega arith)))
 
   -- so with no low there is no high, and 'beyond' means neither
-  pub no-low-no-high : (h : ℕ) → least (lowTest pmf states p) h ≡ none → least (highTest pmf p) h ≡ none
+  pub no-low-no-high : (h : ℕ) → least (lowTest pmf count p) h ≡ none → least (highTest pmf p) h ≡ none
   no-low-no-high h e = go (least (highTest pmf p) h) refl
     where
       at : (k : ℕ) → Percentile (highTest pmf p) k × (k ≤ h) → ⊥
-      at k r = least-none (lowTest pmf states p) h e k (r .0 .from-one) (r .1) (high-low k (r .0 .from-one) (r .0 .there))
+      at k r = least-none (lowTest pmf count p) h e k (r .0 .from-one) (r .1) (high-low k (r .0 .from-one) (r .0 .there))
 
       go : (o : Option ℕ) → least (highTest pmf p) h ≡ o → o ≡ none
       go none q = refl

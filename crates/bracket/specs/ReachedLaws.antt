@@ -59,12 +59,12 @@ module _ (pmf : List ℕ) (slack goal : ℕ) where
       least-end (reachTest pmf slack goal) n (length pmf) (before .none-yet) (omega (arith, before .upto))
 
   -- the search with N + 1 for each chance, for the number after the share rounded down, is the search for low
-  pub search-low : (states p h : ℕ) → slack ≡ states + 1 → goal ≡ (p * unitsPerOne + percentsPerOne) / percentsPerOne
-      → least (reachTest pmf slack goal) h ≡ least (lowTest pmf states p) h
+  pub search-low : (count p h : ℕ) → slack ≡ count + 1 → goal ≡ (p * unitsPerOne + percentsPerOne) / percentsPerOne
+      → least (reachTest pmf slack goal) h ≡ least (lowTest pmf count p) h
   unfolding reachTest passes
-  search-low states p h s g =
-      least-cong (reachTest pmf slack goal) (lowTest pmf states p) h
-      (λ n i l. ap₂ (λ (x y : ℕ). leb y (cdfOf pmf n + n * x)) s g ∙ over-share percentsPerOne (omega arith) (p * unitsPerOne) (cdfOf pmf n + n * (states + 1)))
+  search-low count p h s g =
+      least-cong (reachTest pmf slack goal) (lowTest pmf count p) h
+      (λ n i l. ap₂ (λ (x y : ℕ). leb y (cdfOf pmf n + n * x)) s g ∙ over-share percentsPerOne (omega arith) (p * unitsPerOne) (cdfOf pmf n + n * (count + 1)))
 
   no-slack : (n : ℕ) → slack ≡ 0 → cdfOf pmf n + n * slack ≡ cdfOf pmf n
   no-slack n s = omega (arith, ap (λ (x : ℕ). n * x) s)

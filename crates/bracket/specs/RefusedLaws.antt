@@ -26,8 +26,8 @@ module _ (low high x : ℕ) where
   pub over-range : low ≤ x → high < x → within low high x ≡ false
   over-range h k = ap (λ (b : Bool). cond b (leb x high) false) (le-leb low x h) ∙ lt-leb x high k
 
-module _ (pmf : List ℕ) (states p : ℕ) where
-  pub refused-length : within minHorizon maxHorizon (length pmf) ≡ false → bracketOf pmf states p ≡ Refused badListLength
+module _ (pmf : List ℕ) (count p : ℕ) where
+  pub refused-length : within minHorizon maxHorizon (length pmf) ≡ false → bracketOf pmf count p ≡ Refused badListLength
   unfolding bracketOf
   refused-length e = rw e
 
@@ -35,15 +35,15 @@ module _ (pmf : List ℕ) (states p : ℕ) where
     length-in : within minHorizon maxHorizon (length pmf) ≡ true
     length-in = in-range minHorizon maxHorizon (length pmf) not-empty short
 
-    pub refused-states : within minStates maxStates states ≡ false → bracketOf pmf states p ≡ Refused badStateCount
+    pub refused-states : within minStates maxStates count ≡ false → bracketOf pmf count p ≡ Refused badStateCount
     unfolding bracketOf
     refused-states e = rw (length-in, e)
 
-    module _ (some-states : minStates ≤ states) (few-states : states ≤ maxStates) where
-      states-in : within minStates maxStates states ≡ true
-      states-in = in-range minStates maxStates states some-states few-states
+    module _ (some-states : minStates ≤ count) (few-states : count ≤ maxStates) where
+      states-in : within minStates maxStates count ≡ true
+      states-in = in-range minStates maxStates count some-states few-states
 
-      pub refused-percent : within minPercent maxPercent p ≡ false → bracketOf pmf states p ≡ Refused badPercent
+      pub refused-percent : within minPercent maxPercent p ≡ false → bracketOf pmf count p ≡ Refused badPercent
       unfolding bracketOf
       refused-percent e = rw (length-in, states-in, e)
 
@@ -51,12 +51,12 @@ module _ (pmf : List ℕ) (states p : ℕ) where
         percent-in : within minPercent maxPercent p ≡ true
         percent-in = in-range minPercent maxPercent p some-percent part-percent
 
-        pub refused-total : leb (cdfOf pmf (length pmf)) unitsPerOne ≡ false → bracketOf pmf states p ≡ Refused badTotal
+        pub refused-total : leb (cdfOf pmf (length pmf)) unitsPerOne ≡ false → bracketOf pmf count p ≡ Refused badTotal
         unfolding bracketOf
         refused-total e = rw (length-in, states-in, percent-in, e)
 
         -- no refusal applies
         pub answered : leb (cdfOf pmf (length pmf)) unitsPerOne ≡ true
-            → bracketOf pmf states p ≡ Accepted (percentilePlace pmf states p)
+            → bracketOf pmf count p ≡ Accepted (percentilePlace pmf count p)
         unfolding bracketOf
         answered e = rw (length-in, states-in, percent-in, e)

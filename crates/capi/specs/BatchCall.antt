@@ -5,8 +5,6 @@ use mathlib.Core.Bool.{cond}
 use mathlib.Core.List.{List}
 use lib.Dec.{eqb}
 use lib.ListN.{set}
-use Rattle.rules.specs.declared.refusal.Refusal.{Refusal}
-use Rattle.monitor.specs.declared.Monitor.{Monitor}
 use Rattle.batch.specs.declared.Batch.{Batch}
 use Rattle.capi.specs.Codes.{codeOf}
 use Rattle.capi.specs.MonitorCall.{stateAs, pointsAs}

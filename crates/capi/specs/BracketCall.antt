@@ -30,6 +30,6 @@ abbrev pub bracketAfter : BracketAnswer → List ℕ → List ℕ
 bracketAfter (Accepted place) answer = placeAs place answer
 bracketAfter (Refused x) answer = answer
 
-pub record BracketCalled (pmf : List ℕ) (states p : ℕ) (a a′ : List ℕ) (r : ℕ) : Type 0 where
-  pub code : r ≡ bracketCode (bracketOf pmf states p)
-  pub answer : a′ ≡ bracketAfter (bracketOf pmf states p) a
+pub record BracketCalled (pmf : List ℕ) (count p : ℕ) (a a′ : List ℕ) (r : ℕ) : Type 0 where
+  pub code : r ≡ bracketCode (bracketOf pmf count p)
+  pub answer : a′ ≡ bracketAfter (bracketOf pmf count p) a

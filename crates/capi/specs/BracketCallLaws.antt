@@ -7,8 +7,8 @@ use Rattle.bracket.specs.Bracket.{bracketOf}
 use Rattle.capi.specs.BracketCall.{bracketCode, bracketAfter, BracketCalled}
 
 -- b is the bracket's answer, which is x
-pub bracket-call : (pmf : List ℕ) (states p : ℕ) (a a′ : List ℕ) (r : ℕ) (b x : BracketAnswer) → b ≡ bracketOf pmf states p → b ≡ x
-    → r ≡ bracketCode x → a′ ≡ bracketAfter x a → BracketCalled pmf states p a a′ r
-bracket-call pmf states p a a′ r b x e q code answer =
-    let t : bracketOf pmf states p ≡ x = sym e ∙ q in
+pub bracket-call : (pmf : List ℕ) (count p : ℕ) (a a′ : List ℕ) (r : ℕ) (b x : BracketAnswer) → b ≡ bracketOf pmf count p → b ≡ x
+    → r ≡ bracketCode x → a′ ≡ bracketAfter x a → BracketCalled pmf count p a a′ r
+bracket-call pmf count p a a′ r b x e q code answer =
+    let t : bracketOf pmf count p ≡ x = sym e ∙ q in
     record { code = code ∙ sym (ap bracketCode t); answer = answer ∙ sym (ap (λ (y : BracketAnswer). bracketAfter y a) t) }

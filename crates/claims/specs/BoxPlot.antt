@@ -1,7 +1,6 @@
 -- CLAIMS: the plot record, of what the box plot operation's contract is an equation with: nothing is asked but an accepted call.
 use mathlib.Core.Path.{_≡_, refl, sym, ap, subst, _∙_}
 use mathlib.Core.Bool.{Bool, true, false}
-use mathlib.Core.Option.{Option, none, some}
 use Prim.Native.Nat.{ℕ, _+_, _-_, _*_, _^_, _≤_}
 use native.Mathlib.Nat.{mul-le-mul-right}
 use native.Mathlib.Omega.{arith}
@@ -11,7 +10,7 @@ use Rattle.runlength.specs.Chain.{restrictedMean, meanErrorBound, errorBoundOf}
 use Rattle.runlength.specs.Percentile.{Percentile}
 use Rattle.runlength.specs.RestrictedMean.{mean-lower, mean-upper}
 use Rattle.table.specs.TableChain.{stateCount}
-use Rattle.table.specs.Table.{TableCall, rulesOf, chainOf, pmfOf, meanOf}
+use Rattle.table.specs.Table.{TableCall, rulesOf, chainOf, pmfOf}
 use Rattle.bracket.specs.declared.Place.{Place}
 use Rattle.bracket.specs.declared.Place.the-variants.{At, Between, Open, Beyond}
 use Rattle.bracket.specs.declared.BracketAnswer.the-variants.{Accepted}

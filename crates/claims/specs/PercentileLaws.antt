@@ -5,7 +5,7 @@ use Prim.Native.Nat.{ℕ, _+_, _*_, _≤_}
 use native.Mathlib.Omega.{arith}
 use lib.Dec.{T, leb, ltb, leb→le, le→leb, lt→ltb}
 use Rattle.runlength.specs.Scale.{unitsPerOne, percentsPerOne}
-use Rattle.runlength.specs.Chain.{cdf, cdfOf}
+use Rattle.runlength.specs.Chain.{cdf}
 use Rattle.runlength.specs.PercentBounds.{share-reached, reached-share}
 use Rattle.runlength.specs.Percentile.{least}
 use Rattle.runlength.specs.PercentileLaws.{least-cong, bracket-contains}

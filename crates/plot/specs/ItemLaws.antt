@@ -1,9 +1,9 @@
 -- Laws of the items and of the quartiles: a percentile's place is shown exactly, and two points stand in order.
-use mathlib.Core.Path.{_≡_, refl, sym, ap, _∙_}
+use mathlib.Core.Path.{_≡_, refl}
 use mathlib.Core.Bool.{Bool, true, false, cond}
 use mathlib.Core.List.{List}
 use mathlib.Core.Option.{Option, none, some}
-use Prim.Native.Nat.{ℕ, _+_, _-_, _*_, _≤_, zero-le}
+use Prim.Native.Nat.{ℕ, _+_, _*_, _≤_, zero-le}
 use native.Mathlib.Omega.{arith}
 use lib.Dec.{T, eqb, lt→ltb, ltb→lt}
 use lib.Ieee.Exact.{HasValue}
@@ -14,10 +14,9 @@ use Rattle.runlength.specs.Percentile.{least, Percentile}
 use Rattle.runlength.specs.PercentileLaws.{least-percentile, percentile-least}
 use Rattle.bracket.specs.declared.Place.the-variants as place
 use Rattle.bracket.specs.Bracket.{passes, lowTest, highTest, placeBy, percentilePlace}
-use Rattle.bracket.specs.Accepted.{Accepted}
 use Rattle.plot.specs.Double.{nearestTo}
 use Rattle.plot.specs.DoubleLaws.{exact}
-use Rattle.plot.specs.Item.{itemOf, pointOf, inOrder, Ordered, spread}
+use Rattle.plot.specs.Item.{itemOf, pointOf, inOrder, Ordered}
 use Rattle.plot.specs.Shown.{Shows, point, span, from, beyond}
 
 -- a number of the list's places is a double

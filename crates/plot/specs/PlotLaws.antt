@@ -1,12 +1,10 @@
 -- Laws of the plot record: it shows its summary exactly; and the answer by what the summary was. Laws.
 use mathlib.Core.Path.{_≡_, refl, sym, ap, _∙_}
-use mathlib.Core.Bool.{false}
 use mathlib.Core.List.{List}
 use mathlib.Core.Option.{Option, none, some}
 use Prim.Native.Nat.{ℕ, _-_, _≤_}
 use native.Mathlib.Omega.{arith}
 use lib.Dec.{lit≤}
-use lib.Ieee.Exact.{HasValue}
 use lib.ListN.{length}
 use Rattle.rules.specs.declared.refusal.Refusal.{Refusal}
 use Rattle.runlength.specs.Scale.{maxHorizon}
@@ -19,12 +17,11 @@ use Rattle.summary.specs.Accepted.{AcceptedSummary}
 use Rattle.summary.specs.SummaryLaws.{accepted-summary}
 use Rattle.plot.specs.declared.PlotRecord.{PlotRecord}
 use Rattle.plot.specs.declared.BoxPlotAnswer.{BoxPlotAnswer}
-use Rattle.plot.specs.Double.{nearestTo}
 use Rattle.plot.specs.DoubleLaws.{exact}
-use Rattle.plot.specs.Mean.{partsPerOne, MeanFits}
+use Rattle.plot.specs.Mean.{MeanFits}
 use Rattle.plot.specs.MeanLaws.{down-fits, up-fits}
-use Rattle.plot.specs.Item.{itemOf, pointOf, inOrder, Ordered, spread, spreadOf}
-use Rattle.plot.specs.Shown.{Shows, ShowsSpread, ShowsSummary}
+use Rattle.plot.specs.Item.{pointOf, inOrder, Ordered, spread}
+use Rattle.plot.specs.Shown.{ShowsSpread, ShowsSummary}
 use Rattle.plot.specs.ItemLaws.{number, shown, point-found, ordered}
 use Rattle.plot.specs.Plot.{lowerParts, upperParts, recordOf, Plottable, boxPlotResult, plotBy, boxPlotOf}
 

@@ -33,7 +33,7 @@ arlWord = 97 ∷ 114 ∷ 108 ∷ []
 
 -- standings,N
 unfoldable pub standingsLine : ℕ → List ℕ
-standingsLine states = standingsWord ++ field states ++ newline
+standingsLine count = standingsWord ++ field count ++ newline
 
 -- n,chance,by,left
 abbrev pub headerLine : List ℕ

@@ -13,12 +13,12 @@ ghost use Rattle.print.specs.Row.{standingsLine, standingsRoom, headerLi
 ghost use Rattle.print.specs.Row.{arlLine, arlRoom};
 
 // The line `standings,N`.
-pub fn put_standings(out: &mut [u8], at: usize, states: u32) -> usize
+pub fn put_standings(out: &mut [u8], at: usize, state_count: u32) -> usize
     requires { ⌜ at + standingsRoom ≤ length (now out) ⌝ }
-    ensures { λ r. ⌜ Wrote (now (out .entry)) at (now (out .exit)) r (standingsLine states) ⌝ }
+    ensures { λ r. ⌜ Wrote (now (out .entry)) at (now (out .exit)) r (standingsLine «state_count») ⌝ }
     ensures { λ r. ⌜ r ≤ at + standingsRoom ⌝ }
 {
-    let e = put_named(out, at, b"standings", states as u64);
+    let e = put_named(out, at, b"standings", state_count as u64);
     put_byte(out, e, b'\n')
 }
 

@@ -88,7 +88,7 @@ regroup : (a b c d e : List ℕ) → a ++ b ++ c ++ d ++ e ≡ a ++ (b ++ (c ++ 
 regroup a b c d e = simp append-assoc
 
 pub record SameFigures (h : ℕ) (f g : Figures) : Type 0 where
-  pub states : f .states ≡ g .states
+  pub count : f .count ≡ g .count
   pub row : (n : ℕ) → 1 ≤ n → n ≤ h → SameRow f g n
   pub whole : f .whole ≡ g .whole
   pub fraction : f .fraction ≡ g .fraction
@@ -105,9 +105,9 @@ arl f = arlLine (f .whole) (f .fraction) (f .errorBound)
 pub table-once : (h h′ : ℕ) (f g : Figures) → figureLines h f ≡ figureLines h′ g → (h ≡ h′) × SameFigures h f g
 unfolding figureLines arlLine
 table-once h h′ f g e =
-    let a = standings-once (f .states) (g .states)
-    (sym (regroup (standingsLine (f .states)) headerLine (rows h (rowOf f)) (arl f) (fivePercents (q f))) ∙ e
-    ∙ regroup (standingsLine (g .states)) headerLine (rows h′ (rowOf g)) (arl g) (fivePercents (q g))) in
+    let a = standings-once (f .count) (g .count)
+    (sym (regroup (standingsLine (f .count)) headerLine (rows h (rowOf f)) (arl f) (fivePercents (q f))) ∙ e
+    ∙ regroup (standingsLine (g .count)) headerLine (rows h′ (rowOf g)) (arl g) (fivePercents (q g))) in
     let b : rows h (rowOf f) ++ (arl f ++ fivePercents (q f)) ≡ rows h′ (rowOf g) ++ (arl g ++ fivePercents (q g)) = behind-once headerLine (a .1) in
     let b′ : rowsFrom h 1 (rowOf f) ++ (arl f ++ fivePercents (q f)) ≡ rowsFrom h′ 1 (rowOf g) ++ (arl g ++ fivePercents (q g)) =
     rw (← rows-from h (rowOf f), ← rows-from h′ (rowOf g)) b in
@@ -121,7 +121,7 @@ table-once h h′ f g e =
     let q95 = percent-once 95 _ _ [] [] (append-nil (q f 95) ∙ q75 .1 ∙ sym (append-nil (q g 95))) in (
       c .0,
       record {
-        states = a .0;
+        count = a .0;
         row = λ n p r. c .1 n p (omega arith);
         whole = d .0;
         fraction = d .1;
@@ -137,14 +137,14 @@ same-hold {w} {rs} {h} {f} {g} e t =
     let q = e .places in
     let c = t .contains in
     record {
-      states-are = sym (e .states) ∙ t .states-are;
+      states-are = sym (e .count) ∙ t .states-are;
       pmf-is = λ n i j. sym (e .row n i j .0) ∙ t .pmf-is n i j;
       cdf-is = λ n i j. sym (e .row n i j .1) ∙ t .cdf-is n i j;
       survival-is = λ n i j. sym (e .row n i j .2) ∙ t .survival-is n i j;
       mean-is = rw (← e .whole, ← e .fraction) (t .mean-is);
       fraction-below = rw (← e .fraction) (t .fraction-below);
-      error-is = rw (← e .errorBound, ← e .states) (t .error-is);
-      cdf-bounds = λ n i j. rw (← (e .row n i j .1), ← e .states) (t .cdf-bounds n i j);
+      error-is = rw (← e .errorBound, ← e .count) (t .error-is);
+      cdf-bounds = λ n i j. rw (← (e .row n i j .1), ← e .count) (t .cdf-bounds n i j);
       mean-bounds = rw (← e .whole, ← e .fraction, ← e .errorBound) (t .mean-bounds);
       contains = (rw (← (q .0)) (c .0), rw (← (q .1)) (c .1), rw (← (q .2)) (c .2), rw (← (q .3)) (c .3), rw (← (q .4)) (c .4));
     }

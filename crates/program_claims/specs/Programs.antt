@@ -61,7 +61,7 @@ EachPercent P = P 5 × P 25 × P 50 × P 75 × P 95
 
 -- the numbers that a table prints: N, the columns of the rows by n, the arl line's three, and where each percentile lies
 pub record Figures : Type 0 where
-  pub states : ℕ
+  pub count : ℕ
   pub pmf : ℕ → ℕ
   pub cdf : ℕ → ℕ
   pub survival : ℕ → ℕ
@@ -73,7 +73,7 @@ pub record Figures : Type 0 where
 -- all the lines of a table with h rows
 unfoldable pub figureLines : ℕ → Figures → List ℕ
 figureLines h f =
-    standingsLine (f .states)
+    standingsLine (f .count)
     ++ headerLine
     ++ rows h (λ n. rowLine n (f .pmf n) (f .cdf n) (f .survival n))
     ++ arlLine (f .whole) (f .fraction) (f .errorBound)
@@ -82,17 +82,17 @@ figureLines h f =
 -- The numbers are document 01's figures for these weights, rules and horizon to the last unit, and they bound the exact ones.
 pub record FiguresHold (w : List ℕ) (rs : List Rule) (h : ℕ) (f : Figures) : Type 0 where
   -- demand 2: the figures of the round-down steps
-  pub states-are : f .states ≡ stateCount rs
+  pub states-are : f .count ≡ stateCount rs
   pub pmf-is : (n : ℕ) → 1 ≤ n → n ≤ h → f .pmf n ≡ pmf (tableChain rs w) n
   pub cdf-is : (n : ℕ) → 1 ≤ n → n ≤ h → f .cdf n ≡ cdf (tableChain rs w) n
   pub survival-is : (n : ℕ) → 1 ≤ n → n ≤ h → f .survival n ≡ survival (tableChain rs w) n
   pub mean-is : f .whole * unitsPerOne + f .fraction ≡ restrictedMean (tableChain rs w) h
   pub fraction-below : f .fraction < unitsPerOne
-  pub error-is : f .errorBound ≡ f .states * h * (h - 1) / 2
+  pub error-is : f .errorBound ≡ f .count * h * (h - 1) / 2
   -- demand 3: the chance by n in the row n never exceeds the exact sum, and falls short of it by less than n × (N + 1) units
   pub cdf-bounds : (n : ℕ) → 1 ≤ n → n ≤ h
       → (f .cdf n * weightTotal ^ n ≤ exactSum rs w n * unitsPerOne)
-      × (exactSum rs w n * unitsPerOne < (f .cdf n + n * (f .states + 1)) * weightTotal ^ n)
+      × (exactSum rs w n * unitsPerOne < (f .cdf n + n * (f .count + 1)) * weightTotal ^ n)
   -- the exact mean is at or above the arl line's whole and fraction, by at most its error bound
   pub mean-bounds : ((f .whole * unitsPerOne + f .fraction) * weightTotal ^ h ≤ exactMean rs w h * unitsPerOne)
       × (exactMean rs w h * unitsPerOne ≤ (f .whole * unitsPerOne + f .fraction + f .errorBound) * weightTotal ^ h)

@@ -1,19 +1,18 @@
 -- By which numbers a rule list and a chart are refused. Laws.
-use Prim.Native.Nat.{ℕ, _+_, _≤_}
+use Prim.Native.Nat.{ℕ, _+_}
 use mathlib.Core.Path.{_≡_, ap}
 use mathlib.Core.Bool.{Bool, true, false, cond}
 use mathlib.Core.Logic.{_⊎_, inl, inr, ⊎-elim}
 use mathlib.Core.List.{List, [], _∷_}
 use native.Mathlib.Omega.{arith}
 use lib.Dec.{leb, eqb}
-use borrow.Author.Tests.{le-leb}
 use Rattle.rules.specs.declared.Rule.{Rule}
 use Rattle.rules.specs.declared.RuleList.{RuleList}
 use Rattle.rules.specs.declared.refusal.Refusal.{Refusal}
 use Rattle.rules.specs.declared.Checked.{Checked}
 use Rattle.rules.specs.declared.Checked.the-variants.{Accepted, Refused}
 use Rattle.rules.specs.Bounds.{zoneCount, minRules, maxRules, minWindow, maxWindow, minHits, minZoneSet, maxZoneSet, maxStates}
-use Rattle.rules.specs.Refusal.{badRuleCount, badRuleBounds, badZoneSet, badWeights, badHorizon, tooManyStates, shortList}
+use Rattle.rules.specs.Refusal.{badRuleCount, badRuleBounds, badZoneSet, badWeights, badHorizon, tooManyStates}
 use Rattle.rules.specs.Check.{within, checkRule, orElse, checkRules, activeRules, checkOf}
 use Rattle.runlength.specs.Sum.{sum, at}
 use Rattle.runlength.specs.Scale.{maxHorizon, weightTotal, minHorizon}
@@ -85,8 +84,8 @@ unfolding chartCheck
 chart-number l w h x e =
     let weights = eqb (sum zoneCount (at w)) weightTotal in
     let horizon = within minHorizon maxHorizon h in
-    let states = leb (exploredCount (activeRules l)) maxStates in
+    let count = leb (exploredCount (activeRules l)) maxStates in
     on-both _ (checkOf l) _ x (λ q. more-numbers (list-number l x q))
     (on-both _ (unless weights badWeights) _ x (λ q. there (there (there (here (refused-by weights badWeights x q)))))
     (on-both _ (unless horizon badHorizon) _ x (λ q. there (there (there (there (here (refused-by horizon badHorizon x q))))))
-    (λ q. there (there (there (there (there (here (refused-by states tooManyStates x q))))))))) e
+    (λ q. there (there (there (there (there (here (refused-by count tooManyStates x q))))))))) e

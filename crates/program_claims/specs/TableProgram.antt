@@ -1,5 +1,5 @@
 -- CLAIM: the table program, for every text, of the bytes that its output function's contract names.
-use Prim.Native.Nat.{ℕ, zero, suc, _-_, _*_, _/_, _%_, _≤_, _<_}
+use Prim.Native.Nat.{ℕ, zero, suc, _≤_}
 use mathlib.Core.Path.{_≡_, refl, sym, ap, _∙_}
 use mathlib.Core.Bool.{Bool, true, false, cond}
 use mathlib.Core.List.{List}
@@ -11,18 +11,15 @@ use borrow.Author.Tests.{leb-true}
 use Rattle.rules.specs.declared.Rule.{Rule}
 use Rattle.rules.specs.declared.RuleList.{RuleList}
 use Rattle.rules.specs.declared.refusal.Refusal.{Refusal}
-use Rattle.rules.specs.declared.Checked.{Checked}
 use Rattle.rules.specs.declared.Checked.the-variants.{Accepted, Refused}
 use Rattle.rules.specs.Bounds.{maxRules}
 use Rattle.rules.specs.Refusal.{badLine, tooLong}
-use Rattle.rules.specs.Check.{activeRules, checkOf}
+use Rattle.rules.specs.Check.{checkOf}
 use Rattle.rules.specs.CheckLaws.{accepted}
 use Rattle.runlength.specs.Chain.{pmf, cdf, survival, errorBoundOf}
-use Rattle.table.specs.declared.TableAnswer.{TableAnswer}
-use Rattle.table.specs.Table.{TableCall, tableCall, rulesOf, chainOf, chartCheck, tableCheck, tableOf, pmfOf}
+use Rattle.table.specs.Table.{TableCall, tableCall, rulesOf, chainOf, chartCheck, tableOf, pmfOf}
 use Rattle.table.specs.ChartLaws.{chart-accepted}
 use Rattle.table.specs.TableLaws.{room-check, refused-check}
-use Rattle.bracket.specs.Limits.{minPercent, maxPercent}
 use Rattle.bracket.specs.Contains.{PlaceContains}
 use Rattle.bracket.specs.Bracket.{percentilePlace}
 use Rattle.summary.specs.declared.Summary.{Summary}
@@ -37,7 +34,7 @@ use Rattle.parse.specs.Rules.{ruleListOf}
 use Rattle.parse.specs.RulesLaws.{active-rules}
 use Rattle.parse.specs.TableText.{refusedTable, readTable, tableText}
 use Rattle.print.specs.Row.{rowLine, tableRows}
-use Rattle.print.specs.Percentile.{percentLine, percentLines}
+use Rattle.print.specs.Percentile.{percentLines}
 use Rattle.print.specs.Table.{tableBytes, maxRows}
 use Rattle.report.specs.Printed.{refusedBy, printedBytes}
 use Rattle.report.specs.TableReport.{reportHorizon, reportCall, tableLines, linesOf, blank, tablePrinted}
@@ -72,7 +69,7 @@ module _ (t : TableCall) (s : Summary) (ok : summaryOf t .answer ≡ SummaryAnsw
   figures : Figures
   figures =
       record {
-        states = s .figures .«state_count»;
+        count = s .figures .«state_count»;
         pmf = pmf (chainOf t);
         cdf = cdf (chainOf t);
         survival = survival (chainOf t);

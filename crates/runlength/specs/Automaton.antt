@@ -1,9 +1,9 @@
 -- TO BELIEVE: a chart as an automaton moved by zones, and the exact distribution of its run length: sums over all sequences of zones, in whole
 -- numbers. Its states may be infinitely many. Definitions.
-use Prim.Native.Nat.{ℕ, zero, suc, _+_, _*_}
+use Prim.Native.Nat.{ℕ, suc, _*_}
 use mathlib.Core.Bool.{Bool, true, false, not}
 use mathlib.Core.List.{List, [], _∷_}
-use Rattle.runlength.specs.Sum.{sum, only, sumSequences}
+use Rattle.runlength.specs.Sum.{only, sumSequences}
 
 -- what one point does: the chart stays quiet and goes on to a state, or it signals
 pub data Move (A : Type 0) : Type 0 where

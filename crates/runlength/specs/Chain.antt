@@ -1,5 +1,5 @@
 -- TO BELIEVE: a chart with finitely many states, and document 01's round-down table of its run length. Definitions.
-use Prim.Native.Nat.{ℕ, zero, suc, _+_, _-_, _*_, _/_, _<_}
+use Prim.Native.Nat.{ℕ, zero, suc, _-_, _*_, _/_, _<_}
 use mathlib.Core.Path.{_≡_}
 use lib.Dec.{eqb}
 use mathlib.Core.List.{List}
@@ -27,7 +27,7 @@ pub record Proper (c : Chain) : Type 0 where
 
 -- the error bound (document 01's allowed shortfall) of the mean cut at h with so many states, in units
 abbrev pub errorBoundOf : ℕ → ℕ → ℕ
-errorBoundOf states h = states * h * (h - 1) / 2
+errorBoundOf count h = count * h * (h - 1) / 2
 
 module _ (c : Chain) where
   -- what reaches the state t in one point: the sum, over each state and zone that leads to t with no signal, of units × weight

@@ -13,11 +13,11 @@ use Rattle.summary.specs.Summary.{summaryBy}
 use Rattle.summary.specs.ErrorBound.{maxErrorBound}
 
 -- chances whose every bracket is accepted, with so many states and this horizon
-pub record Summarizable (pmf : List ℕ) (states h : ℕ) : Type 0 where
-  pub few : states ≤ maxStates
+pub record Summarizable (pmf : List ℕ) (count h : ℕ) : Type 0 where
+  pub few : count ≤ maxStates
   pub some-horizon : minHorizon ≤ h
   pub most-horizon : h ≤ maxHorizon
-  pub brackets : (p : ℕ) → minPercent ≤ p → p ≤ maxPercent → Accepted pmf states p
+  pub brackets : (p : ℕ) → minPercent ≤ p → p ≤ maxPercent → Accepted pmf count p
 
 -- the summary of an accepted table call, which no bracket of it is refused
 pub record AcceptedSummary (t : TableCall) (s : Summary) : Type 0 where

@@ -15,7 +15,6 @@ use Rattle.table.specs.AcceptedLaws.{accepted-table}
 use Rattle.bracket.specs.Limits.{minPercent, maxPercent}
 use Rattle.bracket.specs.Accepted as Bracket
 use Rattle.summary.specs.declared.Summary.{Summary}
-use Rattle.summary.specs.declared.SummaryAnswer.{SummaryAnswer}
 use Rattle.summary.specs.declared.SummaryAnswer.the-variants.{Accepted, Refused}
 use Rattle.summary.specs.Summary.{summaryBy, summaryResult, summarized, summaryOf}
 use Rattle.summary.specs.ErrorBound.{error-bound-most}

@@ -32,12 +32,12 @@ pub enum SummaryAnswer {
 }
 
 // The error bound of the mean cut at the horizon: states × horizon × (horizon - 1) / 2.
-fn mean_error_bound(states: u32, horizon: u32) -> u64
-    requires { ⌜ (states ≤ maxStates) × (minHorizon ≤ horizon) × (horizon ≤ maxHorizon) ⌝ }
-    ensures { λ r. ⌜ r ≡ errorBoundOf states horizon ⌝ }
+fn mean_error_bound(state_count: u32, horizon: u32) -> u64
+    requires { ⌜ («state_count» ≤ maxStates) × (minHorizon ≤ horizon) × (horizon ≤ maxHorizon) ⌝ }
+    ensures { λ r. ⌜ r ≡ errorBoundOf «state_count» horizon ⌝ }
 {
     let h = horizon as u64;
-    states as u64 * h * (h - 1) / 2
+    state_count as u64 * h * (h - 1) / 2
 }
 
 // The summary of exactly the chances of a table, and its figures.
@@ -45,15 +45,15 @@ fn summarize(pmf: &[u64], figures: TableFigures, horizon: u32) -> Summary
     requires { ⌜ Summarizable (now pmf) (figures .«state_count») horizon ⌝ }
     ensures { λ r. ⌜ r ≡ summaryBy (now (pmf .entry)) figures horizon ⌝ }
 {
-    let states = figures.state_count;
+    let state_count = figures.state_count;
     Summary {
         figures,
-        error_bound: mean_error_bound(states, horizon),
-        p5: percentile_place(pmf, states, 5),
-        p25: percentile_place(pmf, states, 25),
-        p50: percentile_place(pmf, states, 50),
-        p75: percentile_place(pmf, states, 75),
-        p95: percentile_place(pmf, states, 95),
+        error_bound: mean_error_bound(state_count, horizon),
+        p5: percentile_place(pmf, state_count, 5),
+        p25: percentile_place(pmf, state_count, 25),
+        p50: percentile_place(pmf, state_count, 50),
+        p75: percentile_place(pmf, state_count, 75),
+        p95: percentile_place(pmf, state_count, 95),
     }
 }
 

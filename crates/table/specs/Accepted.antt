@@ -9,7 +9,7 @@ use Rattle.rules.specs.Bounds.{zoneCount, maxStates}
 use Rattle.rules.specs.Check.{activeRules, checkOf}
 use Rattle.rules.specs.InBounds.{AllInBounds}
 use Rattle.runlength.specs.Scale.{minHorizon, maxHorizon, weightTotal, unitsPerOne}
-use Rattle.runlength.specs.Sum.{at, sum, tab, front}
+use Rattle.runlength.specs.Sum.{at, sum, front}
 use Rattle.runlength.specs.Chain.{Proper, pmf, cdf, survival, restrictedMean, cdfOf}
 use Rattle.table.specs.declared.TableFigures.{TableFigures}
 use Rattle.table.specs.TableChain.{exploredCount, stateCount}

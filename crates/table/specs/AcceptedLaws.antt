@@ -1,14 +1,13 @@
 -- An accepted call of the table has all that `AcceptedTable` says. Laws.
-use mathlib.Core.Path.{_≡_, refl, sym, ap, _∙_}
+use mathlib.Core.Path.{_≡_, refl, ap, _∙_}
 use mathlib.Core.List.{List}
-use Prim.Native.Nat.{ℕ, suc, _+_, _*_, _≤_, _<_}
-use native.Mathlib.Nat.{div-add-mod', le-refl}
+use Prim.Native.Nat.{ℕ, suc, _*_, _≤_, _<_}
+use native.Mathlib.Nat.{div-add-mod'}
 use native.Mathlib.Omega.{arith}
 use lib.Dec.{leb}
-use lib.ListN.{length, getD, take, drop, length-append, length-drop, List·getD-append}
+use lib.ListN.{length, take, drop, length-append, length-drop, List·getD-append}
 use lib.Seq.{take-at}
 use borrow.Author.Tests.{leb-true}
-use Rattle.rules.specs.declared.refusal.Refusal.{Refusal}
 use Rattle.rules.specs.declared.Checked.{Checked}
 use Rattle.rules.specs.declared.Checked.the-variants.{Accepted, Refused}
 use Rattle.rules.specs.Refusal.{shortList}
@@ -21,7 +20,7 @@ use Rattle.runlength.specs.Chain.{Chain, Proper, pmf, cdf, survival, restricted
 use Rattle.runlength.specs.Conservation.{mass-conservation}
 use Rattle.table.specs.declared.TableFigures.{TableFigures}
 use Rattle.table.specs.declared.TableAnswer.{TableAnswer}
-use Rattle.table.specs.Table.{TableCall, rulesOf, chainOf, unless, chartCheck, tableCheck, TableResult, figuresOf, filled, tableOf, pmfOf, meanOf}
+use Rattle.table.specs.Table.{TableCall, rulesOf, chainOf, unless, chartCheck, tableCheck, TableResult, figuresOf, filled, tableOf, pmfOf}
 use Rattle.table.specs.Accepted.{AcceptedChart, AcceptedTable}
 use Rattle.table.specs.TableChainLaws.{count-some, count-explored, chain-proper}
 use Rattle.table.specs.ChartLaws.{passed, accepted-chart}

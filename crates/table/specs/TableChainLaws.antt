@@ -1,8 +1,7 @@
 -- The four laws of the chain that the table runs on: it is proper; it has the plain chart's future; its size is N; its units by state.
 use mathlib.Core.Path.{_≡_, refl, sym, ap, _∙_}
-use mathlib.Core.Bool.{Bool, true, false}
 use mathlib.Core.List.{List, []}
-use Prim.Native.Nat.{ℕ, zero, suc, _+_, _*_, _/_, _≤_, _<_}
+use Prim.Native.Nat.{ℕ, zero, suc, _*_, _/_, _≤_, _<_}
 use native.Mathlib.Omega.{arith}
 use native.Mathlib.Decide.{decLt}
 use lib.Dec.{eqb}
@@ -18,10 +17,10 @@ use Rattle.runlength.specs.Automaton.{Move, quiet, signal, after}
 use Rattle.runlength.specs.Chain.{Proper, inflow, signalled, units, pmf, survival}
 use Rattle.runlength.specs.Future.{Alike, EqualFuture}
 use Rattle.runlength.specs.ListedLaws.{listed-proper}
-use Rattle.states.specs.States.{states, moves}
+use Rattle.states.specs.States.{states}
 use Rattle.states.specs.Automata.{stateAutomaton, referenceAutomaton}
 use Rattle.states.specs.AutomataLaws.{explored-reference}
-use Rattle.states.specs.Places.{Distinct, At}
+use Rattle.states.specs.Places.{At}
 use Rattle.states.specs.StatesLaws.{states-some, states-first, states-distinct, explored-simulation}
 use Rattle.table.specs.TableChain.{exploredCount, stateCount, chainMoves, tableAutomaton, tableChain}
 use Rattle.table.specs.ByState.{overStates, stateInflow, stateSignalled, stateUnits}

@@ -1,7 +1,7 @@
 -- What the table operation answers, case by case. Laws.
-use mathlib.Core.Path.{_≡_, refl, sym, ap, _∙_}
+use mathlib.Core.Path.{_≡_, refl, ap, _∙_}
 use mathlib.Core.List.{List}
-use Prim.Native.Nat.{ℕ, suc, _*_, _/_, _%_, _≤_, _<_}
+use Prim.Native.Nat.{ℕ, suc, _/_, _%_, _≤_, _<_}
 use native.Mathlib.Omega.{arith}
 use lib.ListN.{length}
 use borrow.Author.Tests.{le-leb, lt-leb}
@@ -18,8 +18,8 @@ use Rattle.runlength.specs.Listed.{listedChain}
 use Rattle.rows.specs.Rows.{Ran}
 use Rattle.table.specs.declared.TableFigures.{TableFigures}
 use Rattle.table.specs.declared.TableAnswer.{TableAnswer}
-use Rattle.table.specs.TableChain.{stateCount, chainMoves, tableAutomaton}
-use Rattle.table.specs.Table.{TableCall, rulesOf, chainOf, chartCheck, tableCheck, TableResult, tableResult, filled, tableOf}
+use Rattle.table.specs.TableChain.{chainMoves, tableAutomaton}
+use Rattle.table.specs.Table.{TableCall, rulesOf, chainOf, chartCheck, tableCheck, tableResult, filled, tableOf}
 use Rattle.table.specs.ChartChecked.{HoldsMoves}
 use Rattle.table.specs.PrefixLaws.{front-cong, pmf-same, survival-same, mean-same}
 

@@ -1,6 +1,4 @@
 // The run-length table of a rule list: how likely a chart is to signal at each point up to a horizon.
-use chart::ChartAnswer;
-use chart::check_chart;
 use rules::Refusal;
 use rules::RuleList;
 use rules::ZONES;
@@ -8,6 +6,9 @@ ghost use mathlib.Core.Path.{_≡_};
 ghost use Rattle.table.specs.Table.{tableCall, tableResult, tableOf};
 
 mod chart;
+
+pub use chart::ChartAnswer;
+pub use chart::check_chart;
 
 // What an accepted call answers besides the two lists: document 01's N, left at the horizon, and the cut mean as whole part and fraction
 // in units of 2^-60.

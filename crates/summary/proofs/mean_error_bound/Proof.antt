@@ -6,13 +6,13 @@ use Rattle.summary.proofs.mean_error_bound.Statement.{statement}
 use Rattle.summary.proofs.mean_error_bound.Tie as tie
 
 mul-result : tie.Need-mul-result
-mul-result c = omega (arith, product-most (c .args .states) (c .args .horizon) (c .pre .0) (c .pre .2))
+mul-result c = omega (arith, product-most (c .args .state-count) (c .args .horizon) (c .pre .0) (c .pre .2))
 
 sub-result : tie.Need-sub-result
 sub-result c = search needs
 
 mul-result-2 : tie.Need-mul-result-2
-mul-result-2 c = omega (arith, products-most (c .args .states) (c .args .horizon) (c .pre .0) (c .pre .2))
+mul-result-2 c = omega (arith, products-most (c .args .state-count) (c .args .horizon) (c .pre .0) (c .pre .2))
 
 returns : tie.Need-returns
 returns c = search needs
