@@ -18,7 +18,7 @@ struct More {
     failed: bool,
 }
 
-// No run needs so many reads: each one but the interrupted ones gives a byte or more, and a buffer has 65,537.
+// No run needs so many reads: each one but the interrupted ones gives a byte or more, and a buffer has one byte more than the longest text.
 const MAX_READS: u32 = 16777216;
 
 // One read, behind the bytes that are there. One that a signal interrupts gives nothing, and has not failed.

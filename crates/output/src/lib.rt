@@ -15,7 +15,7 @@ pub fn lines(bytes: &[u8]) {
 
 // The line of a refused text.
 pub fn refused(r: Refusal) {
-    let mut line = [0u8; 64];
+    let mut line = [0u8; print::REFUSED_ROOM];
     let n = print::put_refused(&mut line, 0, r);
     lines(&line[..n]);
 }

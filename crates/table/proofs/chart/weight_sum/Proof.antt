@@ -3,14 +3,14 @@ use mathlib.Core.Path.{_≡_, refl, sym, ap, _∙_}
 use Prim.Native.Nat.{_≤_, _*_, _-_}
 use native.Mathlib.Omega.{arith}
 use borrow.Author.Needs.{needs}
-use Rattle.rules.specs.Bounds.{zoneCount}
+use Rattle.rules.specs.Bounds.{zoneCount, maxNumber}
 use Rattle.runlength.specs.Sum.{sum, at}
 use Rattle.runlength.specs.SumLaws.{sum-zero, sum-more}
 use Rattle.table.proofs.chart.weight_sum.Statement.{statement}
 use Rattle.table.proofs.chart.weight_sum.Tie as tie
 
 abbrev Inv-loop : tie.InvT-loop
-Inv-loop weights total₀ z₀ total z = (z ≤ zoneCount) × (total ≡ sum z (at weights)) × (total ≤ z * 4294967295)
+Inv-loop weights total₀ z₀ total z = (z ≤ zoneCount) × (total ≡ sum z (at weights)) × (total ≤ z * maxNumber)
 
 abbrev μ-loop : tie.MeasureT-loop
 μ-loop weights total₀ z₀ total z = zoneCount - z
