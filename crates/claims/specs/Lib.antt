@@ -3,6 +3,9 @@ pub mod Exact
 pub mod ExactLaws
 pub mod MonitorLaws
 pub mod PercentileLaws
+pub mod Named
+pub mod NamedLaws
+pub mod Demand2
 pub mod Demand3
 pub mod Marked
 pub mod BoxPlot

@@ -58,7 +58,8 @@ digits-of-mask : (t : Bool) (x : ℕ) → (bit t + 2 * x) / 2 ≡ x
 digits-of-mask true x = omega arith
 digits-of-mask false x = omega arith
 
-mask-digit : (ts : List Bool) (i : ℕ) → maskOf ts / 2 ^ i % 2 ≡ bit (getD ts i false)
+-- a digit of a mask is its test's
+pub mask-digit : (ts : List Bool) (i : ℕ) → maskOf ts / 2 ^ i % 2 ≡ bit (getD ts i false)
 unfolding maskOf
 mask-digit [] i = rw (zero-div (2 ^ i))
 mask-digit (t ∷ ts) zero = digit-of-mask t (maskOf ts)

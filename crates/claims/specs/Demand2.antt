@@ -1,0 +1,54 @@
+-- CLAIMS: demand 2, of what the operations' contracts are equations with and for every input: nothing is asked but an accepted call.
+use mathlib.Core.Path.{_≡_, ap, _∙_}
+use mathlib.Core.List.{List, []}
+use Prim.Native.Nat.{ℕ, suc, _/_, _<_}
+use Rattle.rules.specs.declared.RuleList.{RuleList}
+use Rattle.rules.specs.declared.Checked.the-variants.{Accepted}
+use Rattle.rules.specs.Check.{activeRules, checkOf}
+use Rattle.runlength.specs.Scale.{weightTotal}
+use Rattle.runlength.specs.Sum.{at, sum}
+use Rattle.runlength.specs.SumLaws.{sum-cong}
+use Rattle.runlength.specs.Chain.{restrictedMean}
+use Rattle.monitor.specs.Step.{freshMonitor}
+use Rattle.monitor.specs.Calls.{monitorAnswers}
+use Rattle.monitor.specs.Agreement.{agreement}
+use Rattle.table.specs.declared.TableFigures.{TableFigures}
+use Rattle.table.specs.declared.TableAnswer.{TableAnswer}
+use Rattle.table.specs.ByState.{overStates, stateSignalled, stateUnits}
+use Rattle.table.specs.Table.{TableCall, rulesOf, tableOf, meanOf}
+use Rattle.table.specs.TableChainLaws.{chain-pmf, chain-survival}
+use Rattle.table.specs.Accepted.{AcceptedTable}
+use Rattle.table.specs.AcceptedLaws.{accepted-table}
+use Rattle.claims.specs.Named.{EachAnswered}
+use Rattle.claims.specs.NamedLaws.{chart-answered}
+
+-- ---- the monitor
+
+-- For every accepted rule list and every list of calls: each accepted call is a signal exactly when some rule's T(k,m,Z) holds over the points
+-- since the chart was cleared, this one among them; bit i of its mask is set exactly when rule i's does; no bit beyond the rules is ever set.
+pub monitor-names : (l : RuleList) → checkOf l ≡ Accepted → (zs : List ℕ) → EachAnswered (activeRules l) [] zs (monitorAnswers l freshMonitor zs)
+monitor-names l accepted zs = rw (agreement l accepted zs) (chart-answered (activeRules l) [] zs)
+
+-- ---- the table: every figure of an accepted call is the one of the round-down steps, by state
+
+module _ (t : TableCall) (f : TableFigures) (accepted : tableOf t .answer ≡ TableAnswer.Accepted f) where
+  call : AcceptedTable t f
+  call = accepted-table t f accepted
+
+  -- The chance at n + 1 is what the states signal then, divided once.
+  pub chance-by-state : (n : ℕ) → n < t .horizon
+      → at (tableOf t .pmfList) n ≡ stateSignalled (rulesOf t) (t .weights) (stateUnits (rulesOf t) (t .weights) n) / weightTotal
+  chance-by-state n i = call .pmf-at n i ∙ chain-pmf (rulesOf t) (call .chart .few) (t .weights) n
+
+  -- Left at n + 1 is the sum over the states of their units then.
+  pub left-by-state : (n : ℕ) → n < t .horizon
+      → at (tableOf t .survivalList) n ≡ overStates (rulesOf t) (stateUnits (rulesOf t) (t .weights) (suc n))
+  left-by-state n i = call .survival-at n i ∙ chain-survival (rulesOf t) (call .chart .few) (t .weights) (suc n)
+
+  -- So is left at the horizon, and the cut mean is the sum of left from 0 to H - 1.
+  pub survival-by-state : f .survival ≡ overStates (rulesOf t) (stateUnits (rulesOf t) (t .weights) (t .horizon))
+  survival-by-state = call .survival-is ∙ chain-survival (rulesOf t) (call .chart .few) (t .weights) (t .horizon)
+
+  pub mean-by-state : meanOf f ≡ sum (t .horizon) (λ n. overStates (rulesOf t) (stateUnits (rulesOf t) (t .weights) n))
+  unfolding restrictedMean
+  mean-by-state = call .mean-is ∙ sum-cong (t .horizon) _ _ (λ n i. chain-survival (rulesOf t) (call .chart .few) (t .weights) n)
