@@ -21,6 +21,8 @@ use Rattle.table.specs.Accepted.{AcceptedTable}
 use Rattle.table.specs.AcceptedLaws.{accepted-table}
 use Rattle.claims.specs.Named.{EachAnswered}
 use Rattle.claims.specs.NamedLaws.{chart-answered}
+use Rattle.claims.specs.Counted.{Counts}
+use Rattle.claims.specs.CountedLaws.{counts}
 
 -- ---- the monitor
 
@@ -34,6 +36,10 @@ monitor-names l accepted zs = rw (agreement l accepted zs) (chart-answered (acti
 module _ (t : TableCall) (f : TableFigures) (accepted : tableOf t .answer ≡ TableAnswer.Accepted f) where
   call : AcceptedTable t f
   call = accepted-table t f accepted
+
+  -- N counts exactly the states of the rows that all zone sequences with no signal make.
+  pub states-counted : Counts (rulesOf t) (f .«state_count»)
+  states-counted = rw (call .count-is) (counts (rulesOf t) (call .chart .bounds) (call .chart .few))
 
   -- The chance at n + 1 is what the states signal then, divided once.
   pub chance-by-state : (n : ℕ) → n < t .horizon

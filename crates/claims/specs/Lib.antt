@@ -5,6 +5,8 @@ pub mod MonitorLaws
 pub mod PercentileLaws
 pub mod Named
 pub mod NamedLaws
+pub mod Counted
+pub mod CountedLaws
 pub mod Demand2
 pub mod Demand3
 pub mod Marked

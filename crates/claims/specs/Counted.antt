@@ -1,0 +1,30 @@
+-- TO BELIEVE: what N counts: the states of the rows that zone sequences with no signal make. Definitions.
+use Prim.Native.Nat.{ℕ, _<_}
+use mathlib.Core.Path.{_≡_}
+use mathlib.Core.List.{List, [], _∷_}
+use lib.ListN.{length}
+use Rattle.rules.specs.declared.Rule.{Rule}
+use Rattle.rules.specs.Bounds.{zoneCount}
+use Rattle.runlength.specs.Sum.{at}
+use Rattle.monitor.specs.ReferenceChart.{rowMask}
+use Rattle.monitor.specs.RowLaws.{stateOfRow}
+use Rattle.states.specs.Places.{Distinct}
+
+-- a row of zones, the newest first, at none of whose points some rule holds
+pub data QuietRow (rs : List Rule) : List ℕ → Type 0 where
+  empty : QuietRow rs []
+  point : {row : List ℕ} (z : ℕ) → QuietRow rs row → z < zoneCount → rowMask rs (z ∷ row) ≡ 0 → QuietRow rs (z ∷ row)
+
+-- the state of some quiet row
+pub record OfQuietRow (rs : List Rule) (s : ℕ) : Type 0 where
+  pub row : List ℕ
+  pub quiet-row : QuietRow rs row
+  pub state : s ≡ stateOfRow rs row
+
+-- n counts exactly the states of quiet rows: a list of n different ones, each of some quiet row, and the state of every quiet row among them
+pub record Counts (rs : List Rule) (n : ℕ) : Type 0 where
+  pub list : List ℕ
+  pub count : n ≡ length list
+  pub distinct : Distinct list
+  pub each : (i : ℕ) → i < length list → OfQuietRow rs (at list i)
+  pub all : (row : List ℕ) → QuietRow rs row → (i : ℕ) × (i < length list) × (at list i ≡ stateOfRow rs row)
