@@ -1,10 +1,12 @@
--- Laws of a batch: no reading, the first reading refused, and one reading more of those that are left.
+-- Laws of a batch: what it is refused by, how it ends, and one reading more of those that are left.
 use mathlib.Core.Path.{_≡_, refl, sym, ap, _∙_}
-use mathlib.Core.Bool.{true, false}
+use mathlib.Core.Bool.{Bool, true, false, cond}
+use mathlib.Core.Logic.{⊎-elim}
 use mathlib.Core.List.{List, [], _∷_}
 use Prim.Native.Nat.{ℕ, _+_, _≤_, _<_}
 use native.Mathlib.Numerals.{add-one}
 use native.Mathlib.Omega.{arith}
+use lib.Dec.{eqb}
 use lib.IntN.{ℤ, pos}
 use lib.ListN.{length, drop, getD, drop-of-length-le}
 use lib.Seq.{drop-cons}
@@ -20,41 +22,98 @@ use Rattle.monitor.specs.declared.Monitor.{Monitor}
 use Rattle.monitor.specs.declared.Step.{Step}
 use Rattle.monitor.specs.declared.Taken.{Taken}
 use Rattle.monitor.specs.State.{validState}
-use Rattle.monitor.specs.Reading.{readingStep, Readable, pointAt}
-use Rattle.monitor.specs.ReadingLaws.{reading-bad-rules, reading-bad-sigma, reading-bad-state}
+use Rattle.monitor.specs.StepLaws.{stepTaken}
+use Rattle.monitor.specs.WindowLaws.{le-or-lt}
+use Rattle.monitor.specs.Reading.{readingStep, readingCheck, Readable, pointAt}
+use Rattle.monitor.specs.ReadingLaws.{reading-refused, reading-accepted, check-bad-rules, check-bad-sigma, check-bad-state, check-bad-count, check-accepted}
 use Rattle.monitor.specs.ReadingLaws.{reading-bad-count, reading-taken, reading-next}
 use Rattle.monitor.specs.Zone.{minSigma, maxSigma}
 use Rattle.batch.specs.declared.Batch.{Batch}
-use Rattle.batch.specs.Batch.{noneTaken, after, batchBy, batchOf, Left}
+use Rattle.batch.specs.Batch.{noneTaken, after, batchBy, readingsFrom, checkedBatch, batchOf, Ends, unrefused, full, Left}
 
--- ---- no reading, and the first reading refused
+-- ---- the check
 
 module _ (l : RuleList) (m : Monitor) (centre : ℤ) (sigma : ℕ) (xs : List ℤ) where
-  pub no-reading : length xs ≡ 0 → batchOf l m centre sigma xs ≡ noneTaken notRefused m
+  by-check : (c : Checked) → readingCheck l m sigma ≡ c → batchOf l m centre sigma xs ≡ checkedBatch c m (readingsFrom l m centre sigma xs)
   unfolding batchOf
-  no-reading e = go xs e
-    where
-      go : (ys : List ℤ) → length ys ≡ 0 → batchOf l m centre sigma ys ≡ noneTaken notRefused m
-      go [] e = refl
-      go (y ∷ ys) e = absurd (omega arith)
+  by-check c e = rw e
 
-  module _ (some : 0 < length xs) where
-    by-first : (y : Refusal) → readingStep l m centre sigma (getD xs 0 (pos 0)) ≡ Step.Refused y
-        → batchOf l m centre sigma xs ≡ noneTaken y m
-    unfolding batchOf
-    by-first y e = ap (batchOf l m centre sigma) (drop-cons xs 0 (pos 0) some) ∙ rw e
+  pub batch-refused : (y : Refusal) → readingCheck l m sigma ≡ Checked.Refused y → batchOf l m centre sigma xs ≡ noneTaken y m
+  batch-refused y e = by-check (Checked.Refused y) e
 
-    pub rules-refused : (y : Refusal) → checkOf l ≡ Checked.Refused y → batchOf l m centre sigma xs ≡ noneTaken y m
-    rules-refused y e = by-first y (reading-bad-rules l m centre sigma (getD xs 0 (pos 0)) y e)
+  pub rules-refused : (y : Refusal) → checkOf l ≡ Checked.Refused y → batchOf l m centre sigma xs ≡ noneTaken y m
+  rules-refused y e = batch-refused y (check-bad-rules l m sigma y e)
 
-    module _ (ok : checkOf l ≡ Accepted) where
-      pub sigma-refused : within minSigma maxSigma sigma ≡ false → batchOf l m centre sigma xs ≡ noneTaken badSigma m
-      sigma-refused e = by-first badSigma (reading-bad-sigma l m centre sigma (getD xs 0 (pos 0)) ok e)
+  module _ (ok : checkOf l ≡ Accepted) where
+    pub sigma-refused : within minSigma maxSigma sigma ≡ false → batchOf l m centre sigma xs ≡ noneTaken badSigma m
+    sigma-refused e = batch-refused badSigma (check-bad-sigma l m sigma ok e)
 
-      pub state-refused : within minSigma maxSigma sigma ≡ true
-          → validState (m .count) (activeRules l) (m .state) ≡ false
-          → batchOf l m centre sigma xs ≡ noneTaken badState m
-      state-refused fits e = by-first badState (reading-bad-state l m centre sigma (getD xs 0 (pos 0)) ok fits e)
+    pub state-refused : within minSigma maxSigma sigma ≡ true
+        → validState (m .count) (activeRules l) (m .state) ≡ false
+        → batchOf l m centre sigma xs ≡ noneTaken badState m
+    state-refused fits e = batch-refused badState (check-bad-state l m sigma ok fits e)
+
+  module _ (r : Readable l sigma m) where
+    pub count-refused : maxNumber ≤ m .count → batchOf l m centre sigma xs ≡ noneTaken badCount m
+    count-refused h = batch-refused badCount (check-bad-count l m sigma r h)
+
+    pub batch-taken : m .count < maxNumber → batchOf l m centre sigma xs ≡ readingsFrom l m centre sigma xs
+    batch-taken h = by-check Accepted (check-accepted l m sigma r h)
+
+-- The check is that of a first reading: where there is one, it changes nothing.
+pub batch-some : (l : RuleList) (m : Monitor) (centre : ℤ) (sigma : ℕ) (x : ℤ) (xs : List ℤ)
+    → batchOf l m centre sigma (x ∷ xs) ≡ readingsFrom l m centre sigma (x ∷ xs)
+unfolding readingsFrom
+batch-some l m centre sigma x xs = go (readingCheck l m sigma) refl
+  where
+    go : (c : Checked) → readingCheck l m sigma ≡ c → batchOf l m centre sigma (x ∷ xs) ≡ readingsFrom l m centre sigma (x ∷ xs)
+    go Accepted e = by-check l m centre sigma (x ∷ xs) Accepted e
+    go (Checked.Refused y) e = by-check l m centre sigma (x ∷ xs) (Checked.Refused y) e ∙ rw (reading-refused l m sigma y e centre x)
+
+-- ---- how it ends
+
+ends-after : (b : Batch) → Ends b → Ends (after 1 b)
+ends-after b (unrefused e) = unrefused e
+ends-after b (full e t c) = full e (omega arith) c
+
+-- by the step of a reading that is taken
+ends-taken : (m : Monitor) (count : ℕ) (t : Taken) (rest : Monitor → Batch) → Ends (after 1 (rest (t .next))) → Ends (batchBy m (stepTaken count t) rest)
+ends-taken m count t rest e = go (eqb (t .mask) 0)
+  where
+    go : (b : Bool) → Ends (batchBy m (cond b (Step.Quiet count (t .next)) (Step.Signal count (t .mask) (t .next))) rest)
+    go true = e
+    go false = unrefused refl
+
+module _ (l : RuleList) (centre : ℤ) (sigma : ℕ) where
+  abbrev readings : List ℤ → Monitor → Batch
+  readings xs m = readingsFrom l m centre sigma xs
+
+  first-ends : (x : ℤ) (xs : List ℤ) (m : Monitor) → Readable l sigma m → m .count < maxNumber
+      → Ends (after 1 (readings xs (pointAt l m centre sigma x .next))) → Ends (readings (x ∷ xs) m)
+  unfolding readingsFrom
+  first-ends x xs m r q e = rw (reading-taken l m centre sigma x r q) (ends-taken m (m .count + 1) (pointAt l m centre sigma x) (readings xs) e)
+
+  -- from the second reading on only the count can refuse
+  later-ends : (xs : List ℤ) (m : Monitor) → Readable l sigma m → Ends (after 1 (readings xs m))
+  unfolding readingsFrom
+  later-ends [] m r = unrefused refl
+  later-ends (x ∷ xs) m r =
+      ⊎-elim
+      (λ (q : maxNumber ≤ m .count). rw (reading-bad-count l m centre sigma x r q) (full refl (omega arith) q))
+      (λ (q : m .count < maxNumber).
+      ends-after (readings (x ∷ xs) m)
+      (first-ends x xs m r q (later-ends xs (pointAt l m centre sigma x .next) (reading-next l m centre sigma x r))))
+      (le-or-lt maxNumber (m .count))
+
+  -- A batch that is not refused took its readings up to a signal or the end, or met a full count behind readings that it took: only 7 can
+  -- come at a later reading.
+  pub batch-ends : (m : Monitor) (xs : List ℤ) → readingCheck l m sigma ≡ Accepted → Ends (batchOf l m centre sigma xs)
+  unfolding readingsFrom
+  batch-ends m [] e = rw (by-check l m centre sigma [] Accepted e) (unrefused refl)
+  batch-ends m (x ∷ xs) e =
+      let r = reading-accepted l m sigma e in
+      rw (by-check l m centre sigma (x ∷ xs) Accepted e)
+      (first-ends x xs m (r .0) (r .1) (later-ends xs (pointAt l m centre sigma x .next) (reading-next l m centre sigma x (r .0))))
 
 -- ---- the readings left, from i on
 
@@ -65,15 +124,15 @@ after-after i b = let e : i + (1 + b .taken) ≡ i + 1 + b .taken = omega arith 
 pub left-all : (l : RuleList) (m : Monitor) (centre : ℤ) (sigma : ℕ) (xs : List ℤ) → Readable l sigma m
     → Left l m centre sigma xs m 0
 left-all l m centre sigma xs r =
-    let b = batchOf l m centre sigma xs in
+    let b = readingsFrom l m centre sigma xs in
     let e : 0 + b .taken ≡ b .taken = omega arith in
     record { readable = r; same = rw e }
 
 module _ {l : RuleList} {start : Monitor} {centre : ℤ} {sigma : ℕ} {xs : List ℤ} {m : Monitor} {i : ℕ}
     (left : Left l start centre sigma xs m i) where
-  pub left-none : length xs ≤ i → batchOf l start centre sigma xs
+  pub left-none : length xs ≤ i → readingsFrom l start centre sigma xs
       ≡ record { taken = i; refusal = notRefused; count = m .count; mask = 0; next = m }
-  unfolding batchOf
+  unfolding readingsFrom
   left-none h = let e : i + 0 ≡ i = omega arith in left .same ∙ rw (drop-of-length-le xs h, e)
 
   module _ (h : i < length xs) where
@@ -81,15 +140,15 @@ module _ {l : RuleList} {start : Monitor} {centre : ℤ} {sigma : ℕ} {xs : Lis
     abbrev x : ℤ
     x = getD xs i (pos 0)
 
-    left-first : batchOf l start centre sigma xs
-        ≡ after i (batchBy m (readingStep l m centre sigma x) (λ next. batchOf l next centre sigma (drop (i + 1) xs)))
-    unfolding batchOf
+    left-first : readingsFrom l start centre sigma xs
+        ≡ after i (batchBy m (readingStep l m centre sigma x) (λ next. readingsFrom l next centre sigma (drop (i + 1) xs)))
+    unfolding readingsFrom
     left-first =
         left .same
-        ∙ ap (λ (ys : List ℤ). after i (batchOf l m centre sigma ys))
+        ∙ ap (λ (ys : List ℤ). after i (readingsFrom l m centre sigma ys))
         (drop-cons xs i (pos 0) h ∙ ap (λ (t : ℕ). x ∷ drop t xs) (sym (add-one i)))
 
-    pub left-full : maxNumber ≤ m .count → batchOf l start centre sigma xs
+    pub left-full : maxNumber ≤ m .count → readingsFrom l start centre sigma xs
         ≡ record { taken = i; refusal = badCount; count = m .count; mask = 0; next = m }
     left-full q =
         let e : i + 0 ≡ i = omega arith in
@@ -97,7 +156,7 @@ module _ {l : RuleList} {start : Monitor} {centre : ℤ} {sigma : ℕ} {xs : Lis
 
     -- the point at it
     module _ (q : m .count < maxNumber) {t : Taken} (p : t ≡ pointAt l m centre sigma x) where
-      pub left-signal : (t .mask ≡ 0 → ⊥) → batchOf l start centre sigma xs
+      pub left-signal : (t .mask ≡ 0 → ⊥) → readingsFrom l start centre sigma xs
           ≡ record { taken = i + 1; refusal = notRefused; count = m .count + 1; mask = t .mask; next = t .next }
       left-signal e = left-first ∙ rw (reading-taken l m centre sigma x (left .readable) q, ← p, ne-eqb (t .mask) 0 e)
 
@@ -107,5 +166,5 @@ module _ {l : RuleList} {start : Monitor} {centre : ℤ} {sigma : ℕ} {xs : Lis
         same =
             left-first
             ∙ rw (reading-taken l m centre sigma x (left .readable) q, ← p, eq-eqb (t .mask) 0 e)
-            (after-after i (batchOf l (t .next) centre sigma (drop (i + 1) xs)));
+            (after-after i (readingsFrom l (t .next) centre sigma (drop (i + 1) xs)));
       }

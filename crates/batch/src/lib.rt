@@ -8,10 +8,11 @@ use rules::Refusal;
 use rules::RuleList;
 ghost use mathlib.Core.Path.{_≡_};
 ghost use Rattle.monitor.specs.Reading.{Readable};
-ghost use Rattle.batch.specs.Batch.{noneTaken, batchOf};
+ghost use Rattle.batch.specs.Batch.{noneTaken, readingsFrom, batchOf};
 
-// How far the readings were taken. It stopped at a refusal where the refusal's number is not 0: reading `taken` was refused, and not
-// taken. It stopped at a signal where the mask is not 0: the last reading taken is the one that signals. Else all were taken.
+// How far the readings were taken. It stopped at a refusal where the refusal's number is not 0: where `taken` is 0 the batch is refused, else
+// reading `taken` met a full count and was not taken. It stopped at a signal where the mask is not 0: the last reading taken is the one that
+// signals. Else all were taken.
 pub struct Batch {
     pub taken: usize,
     pub refusal: Refusal,
@@ -41,7 +42,7 @@ const BAD_COUNT: Refusal = Refusal {
     place: 0,
 };
 
-// The batch where nothing can be refused but for the count.
+// The readings where nothing can be refused but for the count.
 fn take_accepted(
     list: RuleList,
     monitor: Monitor,
@@ -50,7 +51,7 @@ fn take_accepted(
     readings: &[i32],
 ) -> Batch
     requires { ⌜ Readable list sigma monitor ⌝ }
-    ensures { λ r. ⌜ r ≡ batchOf list monitor centre sigma (now (readings .entry)) ⌝ }
+    ensures { λ r. ⌜ r ≡ readingsFrom list monitor centre sigma (now (readings .entry)) ⌝ }
 {
     let len = readings.len();
     let mut at = monitor;
@@ -103,7 +104,8 @@ fn none_taken(refusal: Refusal, monitor: Monitor) -> Batch
     }
 }
 
-// Readings taken one after another until one signals, one is refused, or none is left. A batch of no readings is never refused.
+// Readings taken one after another until one signals, one is refused, or none is left. All that is given is checked as for a first reading,
+// also where there is none.
 pub fn take_readings(
     list: RuleList,
     monitor: Monitor,
@@ -113,9 +115,6 @@ pub fn take_readings(
 ) -> Batch
     ensures { λ r. ⌜ r ≡ batchOf list monitor centre sigma (now (readings .entry)) ⌝ }
 {
-    if readings.len() == 0 {
-        return none_taken(NO_REFUSAL, monitor);
-    }
     let checked = list.check();
     if let Checked::Refused(refusal) = checked {
         return none_taken(refusal, monitor);
@@ -125,6 +124,9 @@ pub fn take_readings(
     }
     if !monitor.valid(list) {
         return none_taken(BAD_STATE, monitor);
+    }
+    if monitor.count >= MAX_NUMBER {
+        return none_taken(BAD_COUNT, monitor);
     }
     take_accepted(list, monitor, centre, sigma, readings)
 }

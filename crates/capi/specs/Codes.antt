@@ -1,5 +1,5 @@
 -- TO BELIEVE: a refusal as one number, and a rule list as a caller passes it. Definitions.
-use Prim.Native.Nat.{ℕ, _+_, _*_}
+use Prim.Native.Nat.{ℕ, _+_, _*_, _/_, _%_}
 use mathlib.Core.List.{List, [], _∷_}
 use lib.ListN.{getD}
 use Rattle.rules.specs.declared.Rule.{Rule}
@@ -21,3 +21,10 @@ slotList slots count = record {
 -- a refusal as one number: its number in the low 32 bits, its place above them
 abbrev pub codeOf : Refusal → ℕ
 codeOf x = x .number + 4294967296 * x .place
+
+-- the number and the place that a code says
+abbrev pub numberOf : ℕ → ℕ
+numberOf code = code % 4294967296
+
+abbrev pub placeOf : ℕ → ℕ
+placeOf code = code / 4294967296

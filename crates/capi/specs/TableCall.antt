@@ -20,7 +20,7 @@ figuresAfter (Refused x) figures = figures
 
 -- a call of the table: the answer's number, and all that was lent, as they then are
 pub record TableCalled (t : TableCall) (f p′ s′ f′ : List ℕ) (r : ℕ) : Type 0 where
-  pub answer : r ≡ tableCode (tableOf t .answer)
+  pub code : r ≡ tableCode (tableOf t .answer)
   pub pmf-list : p′ ≡ tableOf t .pmfList
   pub survival-list : s′ ≡ tableOf t .survivalList
   pub figures : f′ ≡ figuresAfter (tableOf t .answer) f

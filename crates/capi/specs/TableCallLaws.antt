@@ -17,7 +17,7 @@ module _ (t : TableCall) (f : List ℕ) {p′ s′ : List ℕ} {a : TableAnswer}
   call-refused {x} r e q =
       let is : tableOf t .answer ≡ Refused x = sym (ap (λ (y : TableResult). y .answer) called) ∙ e in
       record {
-        answer = q ∙ sym (ap tableCode is);
+        code = q ∙ sym (ap tableCode is);
         pmf-list = ap (λ (y : TableResult). y .pmfList) called;
         survival-list = ap (λ (y : TableResult). y .survivalList) called;
         figures = sym (ap (λ (y : TableAnswer). figuresAfter y f) is);
@@ -28,7 +28,7 @@ module _ (t : TableCall) (f : List ℕ) {p′ s′ : List ℕ} {a : TableAnswer}
   call-accepted {g} e =
       let is : tableOf t .answer ≡ Accepted g = sym (ap (λ (y : TableResult). y .answer) called) ∙ e in
       record {
-        answer = sym (ap tableCode is);
+        code = sym (ap tableCode is);
         pmf-list = ap (λ (y : TableResult). y .pmfList) called;
         survival-list = ap (λ (y : TableResult). y .survivalList) called;
         figures = sym (ap (λ (y : TableAnswer). figuresAfter y f) is);

@@ -1,7 +1,8 @@
 // A batch of readings for callers in C and Rust.
-use crate::codes::SLOT_NUMBERS;
 use crate::codes::code;
 use crate::codes::list_of;
+use crate::sizes::BATCH_ANSWER;
+use crate::sizes::SLOTS;
 use batch::Batch;
 use monitor::Monitor;
 ghost use mathlib.Core.Path.{_≡_};
@@ -22,7 +23,12 @@ fn batch_code(found: Batch) -> u64
 }
 
 // The monitor for the next reading, and how far the batch came.
-fn write_batch(state: &mut [u64; 1], points: &mut [u32; 1], answer: &mut [u64; 4], found: Batch)
+fn write_batch(
+    state: &mut [u64; 1],
+    points: &mut [u32; 1],
+    answer: &mut [u64; BATCH_ANSWER],
+    found: Batch,
+)
     ensures { λ r. ⌜ now (state .exit) ≡ stateAs (found .next) (now (state .entry)) ⌝ }
     ensures { λ r. ⌜ now (points .exit) ≡ pointsAs (found .next) (now (points .entry)) ⌝ }
     ensures { λ r. ⌜ now (answer .exit) ≡ batchAs found (now (answer .entry)) ⌝ }
@@ -42,14 +48,14 @@ fn write_batch(state: &mut [u64; 1], points: &mut [u32; 1], answer: &mut [u64; 4
 // number that the next reading would be refused by, or 0. Or, where the first reading is refused, answers the refusal and alters nothing.
 #[no_mangle]
 pub extern "C" fn catrovindy_batch(
-    slots: &[u32; SLOT_NUMBERS],
+    slots: &[u32; SLOTS],
     count: u32,
     state: &mut [u64; 1],
     points: &mut [u32; 1],
     centre: i32,
     sigma: u32,
     readings: &[i32],
-    answer: &mut [u64; 4],
+    answer: &mut [u64; BATCH_ANSWER],
 ) -> u64
     ensures { λ r. ⌜ BatchCall
         (batchOf (slotList (now (slots .entry)) count) (monitorOf (now (state .entry)) (now (points .entry))) centre sigma (now (readings .entry)))

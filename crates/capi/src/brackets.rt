@@ -1,12 +1,13 @@
 // The percentile bracket for callers in C and Rust.
 use crate::codes::code;
+use crate::sizes::BRACKET_ANSWER;
 use bracket::BracketAnswer;
 use bracket::Place;
 ghost use mathlib.Core.Path.{_≡_};
 ghost use Rattle.capi.specs.BracketCall.{written, placeAs, BracketCalled};
 
 // The three places of an answer.
-fn write_answer(answer: &mut [u32; 3], kind: u32, first: u32, second: u32)
+fn write_answer(answer: &mut [u32; BRACKET_ANSWER], kind: u32, first: u32, second: u32)
     ensures { λ r. ⌜ now (answer .exit) ≡ written kind first second (now (answer .entry)) ⌝ }
 {
     answer[0] = kind;
@@ -15,7 +16,7 @@ fn write_answer(answer: &mut [u32; 3], kind: u32, first: u32, second: u32)
 }
 
 // A percentile's place.
-fn write_place(answer: &mut [u32; 3], place: Place)
+fn write_place(answer: &mut [u32; BRACKET_ANSWER], place: Place)
     ensures { λ r. ⌜ now (answer .exit) ≡ placeAs place (now (answer .entry)) ⌝ }
 {
     match place {
@@ -33,7 +34,7 @@ pub extern "C" fn catrovindy_bracket(
     pmf: &[u64],
     state_count: u32,
     percent: u32,
-    answer: &mut [u32; 3],
+    answer: &mut [u32; BRACKET_ANSWER],
 ) -> u64
     ensures { λ r. ⌜ BracketCalled (now (pmf .entry)) «state_count» percent (now (answer .entry)) (now (answer .exit)) r ⌝ }
 {

@@ -1,4 +1,5 @@
 // What all exported functions share: a refusal as one number, and the rule list of a caller's slots.
+use crate::sizes::SLOTS;
 use rules::Refusal;
 use rules::Rule;
 use rules::RuleList;
@@ -6,9 +7,6 @@ ghost use mathlib.Core.Path.{_≡_};
 ghost use Prim.Native.Nat.{_<_};
 ghost use Rattle.rules.specs.Bounds.{maxRules};
 ghost use Rattle.capi.specs.Codes.{ruleAt, slotList, codeOf};
-
-// The numbers of a rule list: k, m and the zone set of each of its slots.
-pub(crate) const SLOT_NUMBERS: usize = 3 * (RuleList::MAX_RULES as usize);
 
 // A refusal as one number: its number in the low 32 bits, its place above them. An accepted call answers 0.
 pub(crate) fn code(r: Refusal) -> u64
@@ -18,7 +16,7 @@ pub(crate) fn code(r: Refusal) -> u64
 }
 
 // The rule in a slot.
-fn rule_at(slots: [u32; SLOT_NUMBERS], i: usize) -> Rule
+fn rule_at(slots: [u32; SLOTS], i: usize) -> Rule
     requires { ⌜ i < maxRules ⌝ }
     ensures { λ r. ⌜ r ≡ ruleAt slots i ⌝ }
 {
@@ -26,7 +24,7 @@ fn rule_at(slots: [u32; SLOT_NUMBERS], i: usize) -> Rule
 }
 
 // The rule list of the slots.
-pub(crate) fn list_of(slots: [u32; SLOT_NUMBERS], count: u32) -> RuleList
+pub(crate) fn list_of(slots: [u32; SLOTS], count: u32) -> RuleList
     ensures { λ r. ⌜ r ≡ slotList slots count ⌝ }
 {
     RuleList {

@@ -2,13 +2,17 @@
 mod batches;
 mod brackets;
 mod codes;
+mod lists;
 mod monitors;
 mod plots;
 mod reports;
+pub mod sizes;
 mod tables;
 
 pub use batches::catrovindy_batch;
 pub use brackets::catrovindy_bracket;
+pub use lists::catrovindy_check;
+pub use lists::catrovindy_version;
 pub use monitors::catrovindy_step;
 pub use monitors::catrovindy_zone;
 pub use plots::catrovindy_plot;

@@ -1,7 +1,8 @@
 // The monitor for callers in C and Rust. It is kept by the caller as two numbers: the state and the points counted, both 0 at the start.
-use crate::codes::SLOT_NUMBERS;
 use crate::codes::code;
 use crate::codes::list_of;
+use crate::sizes::SLOTS;
+use crate::sizes::STEP_ANSWER;
 use monitor::Monitor;
 use monitor::Step;
 use monitor::zone::ZoneAnswer;
@@ -28,7 +29,7 @@ pub extern "C" fn catrovindy_zone(reading: i32, centre: i32, sigma: u32, zone: &
 fn write_step(
     state: &mut [u64; 1],
     points: &mut [u32; 1],
-    answer: &mut [u32; 2],
+    answer: &mut [u32; STEP_ANSWER],
     next: Monitor,
     count: u32,
     mask: u32,
@@ -47,12 +48,12 @@ fn write_step(
 // of the rules that hold, 0 for quiet; or answers the refusal and alters nothing.
 #[no_mangle]
 pub extern "C" fn catrovindy_step(
-    slots: &[u32; SLOT_NUMBERS],
+    slots: &[u32; SLOTS],
     count: u32,
     state: &mut [u64; 1],
     points: &mut [u32; 1],
     zone: u32,
-    answer: &mut [u32; 2],
+    answer: &mut [u32; STEP_ANSWER],
 ) -> u64
     ensures { λ r. ⌜ StepCall (slotList (now (slots .entry)) count) (monitorOf (now (state .entry)) (now (points .entry))) zone
         (now (state .entry)) (now (points .entry)) (now (answer .entry)) (now (state .exit)) (now (points .exit)) (now (answer .exit)) r ⌝ }

@@ -1,7 +1,9 @@
 // The plot record for callers in C and Rust.
-use crate::codes::SLOT_NUMBERS;
 use crate::codes::code;
 use crate::codes::list_of;
+use crate::sizes::KINDS;
+use crate::sizes::SLOTS;
+use crate::sizes::VALUES;
 use plot::BoxPlotAnswer;
 use plot::PlotItem;
 use plot::PlotRecord;
@@ -57,7 +59,7 @@ fn flag(is: bool) -> u32
 }
 
 // The two doubles of item i.
-fn write_item(values: &mut [f64; 13], i: usize, item: PlotItem)
+fn write_item(values: &mut [f64; VALUES], i: usize, item: PlotItem)
     requires { ⌜ i < 5 ⌝ }
     ensures { λ r. ⌜ now (values .exit) ≡ itemAs i item (now (values .entry)) ⌝ }
 {
@@ -66,7 +68,7 @@ fn write_item(values: &mut [f64; 13], i: usize, item: PlotItem)
 }
 
 // The ten doubles of the five items.
-fn write_items(values: &mut [f64; 13], found: PlotRecord)
+fn write_items(values: &mut [f64; VALUES], found: PlotRecord)
     ensures { λ r. ⌜ now (values .exit) ≡ itemsAs found (now (values .entry)) ⌝ }
 {
     let p5 = found.p5;
@@ -82,7 +84,7 @@ fn write_items(values: &mut [f64; 13], found: PlotRecord)
 }
 
 // All the record's doubles.
-fn write_values(values: &mut [f64; 13], found: PlotRecord)
+fn write_values(values: &mut [f64; VALUES], found: PlotRecord)
     ensures { λ r. ⌜ now (values .exit) ≡ valuesAs found (now (values .entry)) ⌝ }
 {
     write_items(values, found);
@@ -92,7 +94,7 @@ fn write_values(values: &mut [f64; 13], found: PlotRecord)
 }
 
 // The kinds of the five items, and whether there is an interquartile range.
-fn write_kinds(kinds: &mut [u32; 6], found: PlotRecord)
+fn write_kinds(kinds: &mut [u32; KINDS], found: PlotRecord)
     ensures { λ r. ⌜ now (kinds .exit) ≡ kindsAs found (now (kinds .entry)) ⌝ }
 {
     let p5 = found.p5;
@@ -114,14 +116,14 @@ fn write_kinds(kinds: &mut [u32; 6], found: PlotRecord)
 // nothing.
 #[no_mangle]
 pub extern "C" fn catrovindy_plot(
-    slots: &[u32; SLOT_NUMBERS],
+    slots: &[u32; SLOTS],
     count: u32,
     weights: &[u32; ZONES],
     horizon: u32,
     pmf: &mut [u64],
     survival: &mut [u64],
-    kinds: &mut [u32; 6],
-    values: &mut [f64; 13],
+    kinds: &mut [u32; KINDS],
+    values: &mut [f64; VALUES],
 ) -> u64
     ensures { λ r. ⌜ PlotCalled (tableCall (slotList (now (slots .entry)) count) (now (weights .entry)) horizon (now (pmf .entry)) (now (survival .entry)))
         (now (kinds .entry)) (now (values .entry))

@@ -6,43 +6,43 @@ ghost use Rattle.report.specs.TableReport.{tablePrinted};
 ghost use Rattle.report.specs.MonitorReport.{monitorPrinted};
 ghost use Rattle.capi.specs.ReportCall.{answerCode, answerCount, ReportCall};
 
-// The code of a report's answer, and its number of bytes in `count`.
-fn report_code(answer: ReportAnswer, count: &mut [u64; 1]) -> u64
-    ensures { λ r. ⌜ (r ≡ answerCode answer) × (now (count .exit) ≡ answerCount answer (now (count .entry))) ⌝ }
+// The code of a report's answer, and its number of bytes in `bytes`.
+fn report_code(answer: ReportAnswer, bytes: &mut [u64; 1]) -> u64
+    ensures { λ r. ⌜ (r ≡ answerCode answer) × (now (bytes .exit) ≡ answerCount answer (now (bytes .entry))) ⌝ }
 {
     match answer {
         ReportAnswer::Refused(r) => code(r),
         ReportAnswer::Written(n) => {
-            count[0] = n as u64;
+            bytes[0] = n as u64;
             0
         }
     }
 }
 
-// The table program's lines for a text: `report::table_report`. Answers 0, with the lines in `out` and their number of bytes in `count`; or
+// The table program's lines for a text: `report::table_report`. Answers 0, with the lines in `out` and their number of bytes in `bytes`; or
 // answers the refusal and alters nothing.
 #[no_mangle]
 pub extern "C" fn catrovindy_table_report(
     text: &[u8],
     out: &mut [u8; ReportAnswer::TABLE_SIZE],
-    count: &mut [u64; 1],
+    bytes: &mut [u64; 1],
 ) -> u64
-    ensures { λ r. ⌜ ReportCall (tablePrinted (now (text .entry))) (now (out .entry)) (now (count .entry)) (now (out .exit)) (now (count .exit)) r ⌝ }
+    ensures { λ r. ⌜ ReportCall (tablePrinted (now (text .entry))) (now (out .entry)) (now (bytes .entry)) (now (out .exit)) (now (bytes .exit)) r ⌝ }
 {
     let answer = report::table_report(text, out);
-    report_code(answer, count)
+    report_code(answer, bytes)
 }
 
-// The monitor program's lines for a text: `report::monitor_report`. Answers 0, with the lines in `out` and their number of bytes in `count`;
+// The monitor program's lines for a text: `report::monitor_report`. Answers 0, with the lines in `out` and their number of bytes in `bytes`;
 // or answers the refusal and alters nothing.
 #[no_mangle]
 pub extern "C" fn catrovindy_monitor_report(
     text: &[u8],
     out: &mut [u8; ReportAnswer::MONITOR_SIZE],
-    count: &mut [u64; 1],
+    bytes: &mut [u64; 1],
 ) -> u64
-    ensures { λ r. ⌜ ReportCall (monitorPrinted (now (text .entry))) (now (out .entry)) (now (count .entry)) (now (out .exit)) (now (count .exit)) r ⌝ }
+    ensures { λ r. ⌜ ReportCall (monitorPrinted (now (text .entry))) (now (out .entry)) (now (bytes .entry)) (now (out .exit)) (now (bytes .exit)) r ⌝ }
 {
     let answer = report::monitor_report(text, out);
-    report_code(answer, count)
+    report_code(answer, bytes)
 }

@@ -1,7 +1,8 @@
 // The run-length table for callers in C and Rust.
-use crate::codes::SLOT_NUMBERS;
 use crate::codes::code;
 use crate::codes::list_of;
+use crate::sizes::FIGURES;
+use crate::sizes::SLOTS;
 use rules::ZONES;
 use table::TableAnswer;
 ghost use Rattle.capi.specs.Codes.{slotList};
@@ -12,13 +13,13 @@ ghost use Rattle.capi.specs.TableCall.{TableCalled};
 // to `figures`; or answers the refusal and alters nothing.
 #[no_mangle]
 pub extern "C" fn catrovindy_table(
-    slots: &[u32; SLOT_NUMBERS],
+    slots: &[u32; SLOTS],
     count: u32,
     weights: &[u32; ZONES],
     horizon: u32,
     pmf: &mut [u64],
     survival: &mut [u64],
-    figures: &mut [u64; 4],
+    figures: &mut [u64; FIGURES],
 ) -> u64
     ensures { λ r. ⌜ TableCalled (tableCall (slotList (now (slots .entry)) count) (now (weights .entry)) horizon (now (pmf .entry)) (now (survival .entry)))
         (now (figures .entry)) (now (pmf .exit)) (now (survival .exit)) (now (figures .exit)) r ⌝ }

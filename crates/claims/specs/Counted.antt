@@ -7,7 +7,7 @@ use Rattle.rules.specs.declared.Rule.{Rule}
 use Rattle.rules.specs.Bounds.{zoneCount}
 use Rattle.runlength.specs.Sum.{at}
 use Rattle.monitor.specs.ReferenceChart.{rowMask}
-use Rattle.monitor.specs.RowLaws.{stateOfRow}
+use Rattle.monitor.specs.RowState.{stateOfRow}
 use Rattle.states.specs.Places.{Distinct}
 
 -- a row of zones, the newest first, at none of whose points some rule holds

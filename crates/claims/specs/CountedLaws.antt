@@ -1,21 +1,20 @@
 -- The states met are exactly those of quiet rows. Laws.
-use mathlib.Core.Path.{_≡_, refl, sym, ap, _∙_}
-use mathlib.Core.Bool.{Bool, true, false, cond}
+use mathlib.Core.Path.{_≡_, refl, sym}
+use mathlib.Core.Bool.{Bool, true, false}
 use mathlib.Core.List.{List, [], _∷_}
 use Prim.Native.Nat.{ℕ, _≤_, _<_}
 use native.Mathlib.Omega.{arith}
 use lib.Dec.{eqb}
-use lib.ListN.{length}
 use borrow.Author.Tests.{eq-eqb, eqb-true}
 use Rattle.rules.specs.declared.Rule.{Rule}
 use Rattle.rules.specs.Bounds.{zoneCount, maxStates}
 use Rattle.rules.specs.InBounds.{AllInBounds}
 use Rattle.runlength.specs.Sum.{at}
-use Rattle.runlength.specs.Automaton.{Move, quiet, signal}
-use Rattle.monitor.specs.declared.Move.the-variants.{Quiet, Signal}
+use Rattle.runlength.specs.Automaton.{quiet}
 use Rattle.monitor.specs.State.{moveOf}
 use Rattle.monitor.specs.ReferenceChart.{rowMask}
-use Rattle.monitor.specs.RowLaws.{stateOfRow, move-of-row, empty-row-state}
+use Rattle.monitor.specs.RowState.{stateOfRow}
+use Rattle.monitor.specs.RowLaws.{move-of-row, empty-row-state}
 use Rattle.states.specs.States.{Met, start, more, states}
 use Rattle.states.specs.Automata.{automatonMove, stateAutomaton}
 use Rattle.states.specs.StatesLaws.{states-distinct, states-met, states-all}

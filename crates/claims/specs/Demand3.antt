@@ -22,7 +22,7 @@ use Rattle.runlength.specs.Automaton.{product}
 use Rattle.runlength.specs.PercentileLaws.{never-percentile}
 use Rattle.monitor.specs.Step.{freshMonitor}
 use Rattle.monitor.specs.ReferenceChart.{chartAnswers}
-use Rattle.monitor.specs.Calls.{monitorAnswers, refusalNumber, EachAnswer}
+use Rattle.monitor.specs.Calls.{monitorAnswers, refusalNumber, Said, EachAnswer}
 use Rattle.monitor.specs.Agreement.{agreement, no-call-gets-5, no-refused-call}
 use Rattle.table.specs.declared.TableFigures.{TableFigures}
 use Rattle.table.specs.declared.TableAnswer.{TableAnswer}
@@ -53,8 +53,8 @@ module _ (l : RuleList) (accepted : checkOf l ≡ Accepted) where
   monitor-never-5 zs = no-call-gets-5 l accepted zs
 
   module _ (n : ℕ) (n-max : n ≤ maxHorizon) where
-    -- A call list with a sequence of n zones has no refused call.
-    pub monitor-takes : (q : List ℕ) → length q ≡ n → AllBelow zoneCount q → EachAnswer (λ a. refusalNumber a ≡ 0) (monitorAnswers l freshMonitor q)
+    -- A call list with a sequence of n zones has no refused call: each answer is quiet or signal.
+    pub monitor-takes : (q : List ℕ) → length q ≡ n → AllBelow zoneCount q → EachAnswer Said (monitorAnswers l freshMonitor q)
     monitor-takes q k i = no-refused-call l accepted q i (omega arith)
 
     -- The monitor answers it as the plain chart does that refuses none, so it signals on the same sequences.

@@ -3,7 +3,6 @@ use mathlib.Core.Path.{_≡_, refl, ap, _∙_}
 use mathlib.Core.Bool.{Bool, true, false}
 use mathlib.Core.List.{List, [], _∷_}
 use Prim.Native.Nat.{ℕ, _≤_}
-use native.Mathlib.Omega.{arith}
 use lib.Dec.{ltb}
 use lib.ListN.{length}
 use Rattle.rules.specs.declared.Rule.{Rule}
@@ -11,28 +10,27 @@ use Rattle.rules.specs.declared.RuleList.{RuleList}
 use Rattle.rules.specs.declared.Checked.the-variants.{Accepted}
 use Rattle.rules.specs.Bounds.{zoneCount, maxNumber}
 use Rattle.rules.specs.Check.{activeRules, checkOf}
-use Rattle.runlength.specs.Sequence.{AllBelow}
 use Rattle.monitor.specs.Step.{freshMonitor}
 use Rattle.monitor.specs.ReferenceChart.{rowMask, chartBy, chartStep, chartAnswers}
-use Rattle.monitor.specs.Calls.{monitorAnswers, refusalNumber, EachAnswer}
+use Rattle.monitor.specs.Calls.{monitorAnswers, Said, EachAnswer}
 use Rattle.runlength.specs.Sequence.{AllBelow}
 use Rattle.monitor.specs.Agreement.{agreement, no-refused-call}
 use Rattle.claims.specs.Exact.{freeAnswers}
 
--- a call that is not refused is answered as the chart that refuses none does
-taken-free : (rs : List Rule) (row : List ℕ) (z : ℕ) → refusalNumber (chartStep rs row z .answer) ≡ 0
+-- a call that is taken is answered as the chart that refuses none does
+taken-free : (rs : List Rule) (row : List ℕ) (z : ℕ) → Said (chartStep rs row z .answer)
     → chartStep rs row z ≡ chartBy (rowMask rs (z ∷ row)) (z ∷ row)
 unfolding chartStep
 taken-free rs row z = each (ltb z zoneCount) (ltb (length row) maxNumber) refl refl
   where
-    each : (b c : Bool) → ltb z zoneCount ≡ b → ltb (length row) maxNumber ≡ c → refusalNumber (chartStep rs row z .answer) ≡ 0
+    each : (b c : Bool) → ltb z zoneCount ≡ b → ltb (length row) maxNumber ≡ c → Said (chartStep rs row z .answer)
         → chartStep rs row z ≡ chartBy (rowMask rs (z ∷ row)) (z ∷ row)
     each true true d e h = rw (d, e)
-    each true false d e h = absurd (omega (arith, rw (d, e) at h))
-    each false c d e h = absurd (omega (arith, rw d at h))
+    each true false d e h = absurd (rw (d, e) at h)
+    each false c d e h = absurd (rw d at h)
 
 -- where no call is refused, the plain chart answers as the one that refuses none
-pub unrefused-free : (rs : List Rule) (zs row : List ℕ) → EachAnswer (λ a. refusalNumber a ≡ 0) (chartAnswers rs row zs)
+pub unrefused-free : (rs : List Rule) (zs row : List ℕ) → EachAnswer Said (chartAnswers rs row zs)
     → chartAnswers rs row zs ≡ freeAnswers rs row zs
 unfolding chartAnswers freeAnswers EachAnswer
 unrefused-free rs [] row h = refl
@@ -45,5 +43,5 @@ unrefused-free rs (z ∷ zs) row h =
 pub monitor-free : (l : RuleList) → checkOf l ≡ Accepted → (zs : List ℕ) → AllBelow zoneCount zs → length zs ≤ maxNumber
     → monitorAnswers l freshMonitor zs ≡ freeAnswers (activeRules l) [] zs
 monitor-free l a zs i h =
-    let u : EachAnswer (λ x. refusalNumber x ≡ 0) (chartAnswers (activeRules l) [] zs) = rw (agreement l a zs) at (no-refused-call l a zs i h) in
+    let u : EachAnswer Said (chartAnswers (activeRules l) [] zs) = rw (agreement l a zs) at (no-refused-call l a zs i h) in
     agreement l a zs ∙ unrefused-free (activeRules l) zs [] u

@@ -21,7 +21,7 @@ use Rattle.monitor.specs.declared.Monitor.{Monitor}
 use Rattle.monitor.specs.Step.{freshMonitor}
 use Rattle.monitor.specs.StepLaws.{rules-accepted}
 use Rattle.monitor.specs.ReferenceChart.{Answer, refused, quiet, signal, ruleHolds, rowMask, charted, chartStep, chartAnswers}
-use Rattle.monitor.specs.Calls.{monitorAnswers, refusalNumber, EachAnswer}
+use Rattle.monitor.specs.Calls.{monitorAnswers, refusalNumber, Said, EachAnswer}
 use Rattle.runlength.specs.Sequence.{AllBelow}
 use Rattle.monitor.specs.CallLaws.{monitorOfRow, fresh-of-row, one-call, chart-quiet, chart-signal}
 use Rattle.monitor.specs.RowLaws.{empty-row-mask}
@@ -102,23 +102,23 @@ no-call-gets-5 l a zs = rw (agreement l a zs) (never-five (activeRules l) [] zs)
 
 -- a zone that exists on a row that is not full is taken, and the row grows by one at most
 record CallTaken (row : List ℕ) (a : Answer) (after : List ℕ) : Type 0 where
-  accepted : refusalNumber a ≡ 0
+  said : Said a
   grows : length after ≤ suc (length row)
 
 call-taken : (rs : List Rule) (row : List ℕ) (z : ℕ) → z < zoneCount → length row < maxNumber → CallTaken row (chartStep rs row z .answer) (chartStep rs row z .row)
 call-taken rs row z zone q =
     ⊎-elim
-    (λ (n : rowMask rs (z ∷ row) ≡ 0). rw (chart-quiet rs row z zone q n) record { accepted = refl; grows = omega arith })
-    (λ (n : 0 < rowMask rs (z ∷ row)). rw (chart-signal rs row z zone q (λ y. omega arith)) record { accepted = refl; grows = omega arith })
+    (λ (n : rowMask rs (z ∷ row) ≡ 0). rw (chart-quiet rs row z zone q n) record { said = tt; grows = omega arith })
+    (λ (n : 0 < rowMask rs (z ∷ row)). rw (chart-signal rs row z zone q (λ y. omega arith)) record { said = tt; grows = omega arith })
     (eq-zero-or-pos (rowMask rs (z ∷ row)))
 
-all-taken : (rs : List Rule) (row zs : List ℕ) → AllBelow zoneCount zs → length row + length zs ≤ maxNumber → EachAnswer (λ a. refusalNumber a ≡ 0) (chartAnswers rs row zs)
+all-taken : (rs : List Rule) (row zs : List ℕ) → AllBelow zoneCount zs → length row + length zs ≤ maxNumber → EachAnswer Said (chartAnswers rs row zs)
 unfolding chartAnswers EachAnswer AllBelow
 all-taken rs row [] p q = tt
 all-taken rs row (z ∷ zs) p q =
     let t = call-taken rs row z (p .0) (omega arith) in
-    (t .accepted, all-taken rs (chartStep rs row z .row) zs (p .1) (omega (arith, t .grows)))
+    (t .said, all-taken rs (chartStep rs row z .row) zs (p .1) (omega (arith, t .grows)))
 
--- A list of at most 2^32 - 1 calls whose zones all exist has no refused call.
-pub no-refused-call : (l : RuleList) → checkOf l ≡ Accepted → (zs : List ℕ) → AllBelow zoneCount zs → length zs ≤ maxNumber → EachAnswer (λ a. refusalNumber a ≡ 0) (monitorAnswers l freshMonitor zs)
+-- In a list of at most 2^32 - 1 calls whose zones all exist no call is refused: each is answered quiet or signal.
+pub no-refused-call : (l : RuleList) → checkOf l ≡ Accepted → (zs : List ℕ) → AllBelow zoneCount zs → length zs ≤ maxNumber → EachAnswer Said (monitorAnswers l freshMonitor zs)
 no-refused-call l a zs p q = rw (agreement l a zs) (all-taken (activeRules l) [] zs p (omega arith))

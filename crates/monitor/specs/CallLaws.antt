@@ -21,7 +21,8 @@ use Rattle.monitor.specs.Step.{monitorAt, freshMonitor, acceptedStep}
 use Rattle.monitor.specs.StepLaws.{step-bad-zone, step-bad-count, step-signal, step-quiet}
 use Rattle.monitor.specs.ReferenceChart.{refused, quiet, signal, rowMask, Charted, charted, chartStep}
 use Rattle.monitor.specs.Calls.{answerOf, monitorAfter}
-use Rattle.monitor.specs.RowLaws.{stateOfRow, valid-of-row, mask-of-row, next-of-row, empty-row-state, empty-row-mask}
+use Rattle.monitor.specs.RowState.{stateOfRow}
+use Rattle.monitor.specs.RowLaws.{valid-of-row, mask-of-row, next-of-row, empty-row-state, empty-row-mask}
 
 -- ---- the chart's four cases
 

@@ -31,6 +31,12 @@ refusalNumber (refused n) = n
 refusalNumber (quiet count) = 0
 refusalNumber (signal count mask) = 0
 
+-- quiet or signal: the call was taken
+abbrev pub Said : Answer → Type 0
+Said (refused n) = ⊥
+Said (quiet count) = Unit {0}
+Said (signal count mask) = Unit {0}
+
 -- each answer of a list has it
 unfoldable pub EachAnswer : (Answer → Type 0) → List Answer → Type 0
 EachAnswer P [] = Unit {0}

@@ -5,14 +5,16 @@ pub mod WindowLaws
 pub mod State
 pub mod Settled
 pub mod ForgetLaws
-pub mod ValidLaws
 pub mod StateLaws
 pub mod SettledLaws
+pub mod Givable
+pub mod ValidLaws
 pub mod Step
 pub mod ReferenceChart
 pub mod Take
 pub mod StepLaws
 pub mod Calls
+pub mod RowState
 pub mod RowLaws
 pub mod CallLaws
 pub mod Agreement

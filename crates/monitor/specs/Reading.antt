@@ -3,11 +3,14 @@
 use Prim.Native.Nat.{ℕ}
 use mathlib.Core.Path.{_≡_}
 use mathlib.Core.Bool.{true}
+use lib.Dec.{ltb}
 use lib.IntN.{ℤ, _-ℤ_}
 use Rattle.rules.specs.declared.Checked.{Checked}
 use Rattle.rules.specs.declared.Checked.the-variants.{Accepted}
 use Rattle.rules.specs.declared.RuleList.{RuleList}
-use Rattle.rules.specs.Check.{within, activeRules, checkOf}
+use Rattle.rules.specs.Bounds.{maxNumber}
+use Rattle.rules.specs.Refusal.{badSigma, badState, badCount}
+use Rattle.rules.specs.Check.{within, orElse, unless, activeRules, checkOf}
 use Rattle.monitor.specs.declared.Monitor.{Monitor}
 use Rattle.monitor.specs.declared.Step.{Step}
 use Rattle.monitor.specs.declared.Step.the-variants.{Refused}
@@ -31,6 +34,14 @@ readingBy (Checked.Refused x) l m t = Refused x
 
 unfoldable pub readingStep : RuleList → Monitor → ℤ → ℕ → ℤ → Step
 readingStep l m centre sigma reading = readingBy (checkOf l) l m (zoneOf reading centre sigma)
+
+-- what any reading is refused by, whatever it is: it can be asked before there is one
+unfoldable pub readingCheck : RuleList → Monitor → ℕ → Checked
+readingCheck l m sigma =
+    orElse (checkOf l)
+    (orElse (unless (within minSigma maxSigma sigma) badSigma)
+    (orElse (unless (validState (m .count) (activeRules l) (m .state)) badState)
+    (unless (ltb (m .count) maxNumber) badCount)))
 
 -- ---- where only the count can refuse a reading
 

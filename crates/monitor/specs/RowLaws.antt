@@ -14,25 +14,12 @@ use Rattle.rules.specs.declared.Rule.{Rule}
 use Rattle.rules.specs.InBounds.{InBounds, AllInBounds}
 use Rattle.rules.specs.Mask.{bit, maskOf}
 use Rattle.rules.specs.ZoneSet.{inZoneSet}
-use Rattle.monitor.specs.Window.{maxAge, windowBase, liveHit, live, hitsUpTo, remembered, nextWindow, windowHolds, validWindow}
+use Rattle.monitor.specs.Window.{maxAge, windowBase, liveHit, live, hitsUpTo, nextWindow, windowHolds, validWindow}
 use Rattle.monitor.specs.WindowLaws.{le-or-lt, live-le, live-lt}
 use Rattle.monitor.specs.ForgetLaws.{live-again, none-forgotten, hits-fewer, hits-no-older, hits-zero, live-zero, live-first, hits-first}
 use Rattle.monitor.specs.State.{validState, holding, stateMask, nextState, moveBy, moveOf}
 use Rattle.monitor.specs.ReferenceChart.{hitsAmong, ruleHolds, rowMask}
-
--- ---- the state of a row
-
--- the hits of the whole row, the hit of age a at digit a - 1
-unfoldable pub rowHits : ℕ → List ℕ → ℕ
-rowHits zones [] = 0
-rowHits zones (z ∷ row) = inZoneSet zones z + 2 * rowHits zones row
-
-abbrev pub windowOfRow : Rule → List ℕ → ℕ
-windowOfRow r row = remembered r (rowHits (r .zones) row)
-
-unfoldable pub stateOfRow : List Rule → List ℕ → ℕ
-stateOfRow [] row = 0
-stateOfRow (r ∷ rs) row = windowOfRow r row + windowBase * stateOfRow rs row
+use Rattle.monitor.specs.RowState.{rowHits, windowOfRow, stateOfRow}
 
 -- ---- the hits of a row
 

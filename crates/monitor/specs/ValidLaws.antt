@@ -1,23 +1,22 @@
--- When a window can be given, age by age: the conditions of refusal 5 in document 01's words.
+-- When a window can be given, and a whole state, age by age: the conditions of refusal 5 in document 01's words. Laws.
 use mathlib.Core.Path.{_≡_, refl, sym, ap, _∙_}
 use mathlib.Core.Bool.{Bool, true, false, cond}
 use mathlib.Core.Logic.{⊎-elim, _⊎_, inl, inr, _↔_}
+use mathlib.Core.List.{List, [], _∷_}
 use Prim.Native.Nat.{ℕ, zero, suc, _+_, _-_, _*_, _/_, _%_, _^_, _≤_, _<_, min}
 use native.Mathlib.Nat.{div-div-eq-div-mul, pow-succ', div-eq-of-lt, zero-div, eq-zero-or-pos, div-le-self}
 use native.Mathlib.Omega.{arith}
 use lib.Dec.{leb, eqb}
+use lib.ListN.{length, getD}
 use lib.Pow.{pow-add}
 use borrow.Author.Tests.{le-leb, lt-leb, leb-true, leb-false, eq-eqb, eqb-true}
 use Rattle.rules.specs.declared.Rule.{Rule}
+use Rattle.rules.specs.Check.{noRule}
 use Rattle.monitor.specs.Window.{maxAge, windowBase, hitOfAge, hitsUpTo, remembered, validWindow}
+use Rattle.monitor.specs.State.{validState}
+use Rattle.monitor.specs.SettledLaws.{both}
+use Rattle.monitor.specs.Givable.{Kept, Givable, windowAt, GivableState}
 use Rattle.monitor.specs.WindowLaws.{le-or-lt, live-le, remembered-age}
-
--- Fewer than k hits; each hit one that is remembered, so of an age below m; and none older than the points counted.
-pub record Givable (count : ℕ) (r : Rule) (w : ℕ) : Type 0 where
-  pub few : hitsUpTo maxAge w < r .k
-  pub in-window : (a : ℕ) → 1 ≤ a → hitOfAge a w ≡ 1 → a ≤ r .m - 1
-  pub needed : (a : ℕ) → 1 ≤ a → hitOfAge a w ≡ 1 → r .k ≤ hitsUpTo a w + (r .m - a)
-  pub counted : (a : ℕ) → 1 ≤ a → hitOfAge a w ≡ 1 → a ≤ count
 
 -- ---- numbers with the same digits are equal
 
@@ -37,16 +36,16 @@ bit-cases x h = ⊎-elim (λ (e : x ≡ 0). inl e) (λ (p : 0 < x). inr (omega a
 -- ---- the second test: nothing would be forgotten
 
 module _ (r : Rule) (w : ℕ) where
-  kept-hit : remembered r w ≡ w → (a : ℕ) → 1 ≤ a → hitOfAge a w ≡ 1 → (a ≤ r .m - 1) × (r .k ≤ hitsUpTo a w + (r .m - a))
+  kept-hit : remembered r w ≡ w → (a : ℕ) → 1 ≤ a → hitOfAge a w ≡ 1 → Kept r w a
   kept-hit e a h q = go (leb a (r .m - 1)) refl (leb (r .k) (hitsUpTo a w + (r .m - a))) refl (sym (remembered-age r w a h) ∙ ap (hitOfAge a) e ∙ q)
     where
       go : (x : Bool) → leb a (r .m - 1) ≡ x → (y : Bool) → leb (r .k) (hitsUpTo a w + (r .m - a)) ≡ y → cond x (cond y (hitOfAge a w) 0) 0 ≡ 1
-          → (a ≤ r .m - 1) × (r .k ≤ hitsUpTo a w + (r .m - a))
-      go true ex true ey s = (leb-true a (r .m - 1) ex, leb-true (r .k) (hitsUpTo a w + (r .m - a)) ey)
+          → Kept r w a
+      go true ex true ey s = record { in-window = leb-true a (r .m - 1) ex; needed = leb-true (r .k) (hitsUpTo a w + (r .m - a)) ey }
       go true ex false ey s = absurd (omega arith)
       go false ex y ey s = absurd (omega arith)
 
-  kept-all : w < windowBase → ((a : ℕ) → 1 ≤ a → hitOfAge a w ≡ 1 → (a ≤ r .m - 1) × (r .k ≤ hitsUpTo a w + (r .m - a))) → remembered r w ≡ w
+  kept-all : w < windowBase → ((a : ℕ) → 1 ≤ a → hitOfAge a w ≡ 1 → Kept r w a) → remembered r w ≡ w
   kept-all b f = same-digits maxAge (remembered r w) w (omega (arith, live-le (r .k) 0 (r .m - 1) w)) b at
     where
       at : (i : ℕ) → remembered r w / 2 ^ i % 2 ≡ w / 2 ^ i % 2
@@ -54,7 +53,7 @@ module _ (r : Rule) (w : ℕ) where
           let e : suc i - 1 ≡ i = omega arith in
           let d : hitOfAge (suc i) (remembered r w) ≡ hitOfAge (suc i) w = remembered-age r w (suc i) (omega arith) ∙ ⊎-elim
           (λ (z : hitOfAge (suc i) w ≡ 0). rw z (nought (leb (suc i) (r .m - 1)) (leb (r .k) (hitsUpTo (suc i) w + (r .m - suc i)))))
-          (λ (z : hitOfAge (suc i) w ≡ 1). let p = f (suc i) (omega arith) z in rw (le-leb (suc i) (r .m - 1) (p .0), le-leb (r .k) (hitsUpTo (suc i) w + (r .m - suc i)) (p .1)))
+          (λ (z : hitOfAge (suc i) w ≡ 1). let p = f (suc i) (omega arith) z in rw (le-leb (suc i) (r .m - 1) (p .in-window), le-leb (r .k) (hitsUpTo (suc i) w + (r .m - suc i)) (p .needed)))
           (bit-cases (hitOfAge (suc i) w) (omega arith)) in
           rw e at d
         where
@@ -106,11 +105,9 @@ module _ (count : ℕ) (r : Rule) (w : ℕ) (small : w < windowBase) where
       go : (x : Bool) → leb (r .k) (hitsUpTo maxAge w) ≡ x → (y : Bool) → eqb (remembered r w) w ≡ y → (z : Bool) → eqb (w / 2 ^ min count maxAge) 0 ≡ z
           → cond x false (cond y z false) ≡ true → Givable count r w
       go false ex true ey true ez q =
-          let kept = kept-hit r w (eqb-true (remembered r w) w ey) in
           record {
             few = leb-false (r .k) (hitsUpTo maxAge w) ex;
-            in-window = λ a h t. kept a h t .0;
-            needed = λ a h t. kept a h t .1;
+            kept = kept-hit r w (eqb-true (remembered r w) w ey);
             counted = young-hit count w (eqb-true (w / 2 ^ min count maxAge) 0 ez);
           }
       go true ex y ey z ez q = let n : _≡_ {A = ℕ} 0 1 = cc in absurd (omega arith)
@@ -120,10 +117,96 @@ module _ (count : ℕ) (r : Rule) (w : ℕ) (small : w < windowBase) where
   valid : Givable count r w → validWindow count r w ≡ true
   valid g = rw (
     lt-leb (r .k) (hitsUpTo maxAge w) (g .few),
-    eq-eqb (remembered r w) w (kept-all r w small (λ a h t. (g .in-window a h t, g .needed a h t))),
+    eq-eqb (remembered r w) w (kept-all r w small (g .kept)),
     eq-eqb (w / 2 ^ min count maxAge) 0 (young-all count w small (g .counted)),
   )
 
   -- a window passes exactly when document 01's conditions for 5 do not hold of it
   pub valid-exactly : (validWindow count r w ≡ true) ↔ Givable count r w
   valid-exactly = (givable, valid)
+
+-- ---- a whole state, rule by rule
+
+window-first : (s : ℕ) → windowAt 0 s ≡ s % windowBase
+window-first s = omega arith
+
+window-later : (i s : ℕ) → windowAt (suc i) s ≡ windowAt i (s / windowBase)
+window-later i s =
+    ap (λ (t : ℕ). s / t % windowBase) (pow-succ' windowBase i)
+    ∙ ap (λ (t : ℕ). t % windowBase) (sym (div-div-eq-div-mul s windowBase (windowBase ^ i)))
+
+window-none : (i : ℕ) → windowAt i 0 ≡ 0
+window-none i = ap (λ (t : ℕ). t % windowBase) (zero-div (windowBase ^ i))
+
+-- a state in which every window is empty
+below-power : (s : ℕ) → s < windowBase ^ s
+below-power zero = omega arith
+below-power (suc s) = omega (arith, below-power s, pow-succ' windowBase s)
+
+all-empty : (n s : ℕ) → s < windowBase ^ n → ((i : ℕ) → windowAt i s ≡ 0) → s ≡ 0
+all-empty zero s h e = omega arith
+all-empty (suc n) s h e =
+    let z : s / windowBase ≡ 0 = all-empty n (s / windowBase) (omega (arith, pow-succ' windowBase n)) (λ i. sym (window-later i s) ∙ e (suc i)) in
+    omega (arith, e 0)
+
+-- a window with no hit is empty
+no-hit : (w : ℕ) → w < windowBase → ((a : ℕ) → 1 ≤ a → hitOfAge a w ≡ 0) → w ≡ 0
+no-hit w h f = same-digits maxAge w 0 h (omega arith) none
+  where
+    none : (i : ℕ) → w / 2 ^ i % 2 ≡ 0 / 2 ^ i % 2
+    none i =
+        let e : suc i - 1 ≡ i = omega arith in
+        ap (λ (t : ℕ). w / 2 ^ t % 2) (sym e) ∙ f (suc i) (omega arith) ∙ sym (ap (λ (t : ℕ). t % 2) (zero-div (2 ^ i)))
+
+same-window : {count : ℕ} {r : Rule} {v w : ℕ} → v ≡ w → Givable count r w → Givable count r v
+same-window e g = rw e g
+
+module _ (count : ℕ) where
+  windows-givable : (rs : List Rule) (s : ℕ) → validState count rs s ≡ true → (i : ℕ) → i < length rs → Givable count (getD rs i noRule) (windowAt i s)
+  unfolding validState
+  windows-givable [] s e i h = absurd (omega arith)
+  windows-givable (r ∷ rs) s e zero h =
+      let b = both (validWindow count r (s % windowBase)) (validState count rs (s / windowBase)) e in
+      same-window (window-first s) (givable count r (s % windowBase) (omega arith) (b .0))
+  windows-givable (r ∷ rs) s e (suc i) h =
+      let b = both (validWindow count r (s % windowBase)) (validState count rs (s / windowBase)) e in
+      same-window (window-later i s) (windows-givable rs (s / windowBase) (b .1) i (omega arith))
+
+  windows-beyond : (rs : List Rule) (s : ℕ) → validState count rs s ≡ true → (i : ℕ) → length rs ≤ i → windowAt i s ≡ 0
+  unfolding validState
+  windows-beyond [] s e i h = ap (windowAt i) (eqb-true s 0 e) ∙ window-none i
+  windows-beyond (r ∷ rs) s e zero h = absurd (omega arith)
+  windows-beyond (r ∷ rs) s e (suc i) h =
+      let b = both (validWindow count r (s % windowBase)) (validState count rs (s / windowBase)) e in
+      window-later i s ∙ windows-beyond rs (s / windowBase) (b .1) i (omega arith)
+
+  windows-valid : (rs : List Rule) (s : ℕ) → ((i : ℕ) → i < length rs → Givable count (getD rs i noRule) (windowAt i s))
+      → ((i : ℕ) → length rs ≤ i → windowAt i s ≡ 0) → validState count rs s ≡ true
+  unfolding validState
+  windows-valid [] s g f = eq-eqb s 0 (all-empty s s (below-power s) (λ i. f i (omega arith)))
+  windows-valid (r ∷ rs) s g f =
+      let first = valid count r (s % windowBase) (omega arith) (same-window (sym (window-first s)) (g 0 (omega arith))) in
+      let later = windows-valid rs (s / windowBase)
+      (λ i h. same-window (sym (window-later i s)) (g (suc i) (omega arith)))
+      (λ i h. sym (window-later i s) ∙ f (suc i) (omega arith)) in
+      rw (first, later)
+
+  -- A state passes exactly when none of the four conditions of refusal 5 holds of it.
+  pub state-exactly : (rs : List Rule) (s : ℕ) → (validState count rs s ≡ true) ↔ GivableState count rs s
+  state-exactly rs s = (to, from)
+    where
+      to : validState count rs s ≡ true → GivableState count rs s
+      to e =
+          let g = windows-givable rs s e in
+          record {
+            few = λ i h. g i h .few;
+            kept = λ i a h p q. g i h .kept a p q;
+            counted = λ i a h p q. g i h .counted a p q;
+            none-beyond = λ i a h p. ap (hitOfAge a) (windows-beyond rs s e i h) ∙ ap (λ (t : ℕ). t % 2) (zero-div (2 ^ (a - 1)));
+          }
+
+      from : GivableState count rs s → validState count rs s ≡ true
+      from t =
+          windows-valid rs s
+          (λ i h. record { few = t .few i h; kept = λ a p q. t .kept i a h p q; counted = λ a p q. t .counted i a h p q })
+          (λ i h. no-hit (windowAt i s) (omega arith) (λ a p. t .none-beyond i a h p))

@@ -10,3 +10,6 @@ pub mod MonitorProgram
 pub mod NumberOnce
 pub mod LinesOnce
 pub mod PrintedOnce
+pub mod Coded
+pub mod CodedLaws
+pub mod Exported

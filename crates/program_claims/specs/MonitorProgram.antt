@@ -14,15 +14,15 @@ use Rattle.rules.specs.declared.refusal.Refusal.{Refusal}
 use Rattle.rules.specs.declared.Checked.{Checked}
 use Rattle.rules.specs.declared.Checked.the-variants.{Accepted, Refused}
 use Rattle.rules.specs.Refusal.{badSigma}
-use Rattle.rules.specs.Check.{within, orElse, activeRules, checkOf}
+use Rattle.rules.specs.Check.{within, orElse, unless, activeRules, checkOf}
 use Rattle.rules.specs.CheckLaws.{between}
+use Rattle.rules.specs.NumbersLaws.{list-number}
 use Rattle.monitor.specs.Zone.{minSigma, maxSigma}
 use Rattle.rules.specs.Bounds.{maxNumber}
 use Rattle.monitor.specs.Step.{freshMonitor}
 use Rattle.monitor.specs.ReferenceChart.{quiet, signal, rowMask, charted}
-use Rattle.monitor.specs.Calls.{monitorAnswers, EachAnswer}
+use Rattle.monitor.specs.Calls.{Said, monitorAnswers, EachAnswer}
 use Rattle.monitor.specs.Agreement.{agreement}
-use Rattle.table.specs.Table.{unless}
 use Rattle.parse.specs.declared.monitors.MonitorText.{MonitorText}
 use Rattle.parse.specs.Rules.{ruleListOf}
 use Rattle.parse.specs.RulesLaws.{active-rules}
@@ -36,9 +36,8 @@ use Rattle.claims.specs.Exact.{freeAnswers}
 use Rattle.claims.specs.MonitorLaws.{monitor-free}
 use Rattle.program_claims.specs.Texts.{MonitorTextIs, MonitorReading, too-long, stopped, read}
 use Rattle.program_claims.specs.MonitorBytes.{monitor-reading, monitor-read, monitor-text-once, monitor-stopped, monitor-too-long as text-too-long}
-use Rattle.program_claims.specs.Programs.{Said, MonitorPrints, MonitorProgram, bad-rules, bad-sigma}
+use Rattle.program_claims.specs.Programs.{MonitorPrints, MonitorProgram, bad-rules, bad-sigma}
 use Rattle.program_claims.specs.Programs.{refuses as monitor-refuses, prints as monitor-prints, too-long as monitor-too-long, bad-line as monitor-bad-line}
-use Rattle.program_claims.specs.RefusalLaws.{list-number}
 use Rattle.program_claims.specs.TableProgram.{rules-few}
 
 -- the chart that refuses none says quiet or signal each time

@@ -11,7 +11,7 @@ use borrow.Author.Tests.{ltb-true, ltb-false, eq-eqb}
 use Rattle.rules.specs.declared.Rule.{Rule}
 use Rattle.rules.specs.Refusal.{badSigma, badState, badZone, badCount, shortList, badListLength, badStateCount, badPercent, badTotal, badLine, tooLong}
 use Rattle.monitor.specs.ReferenceChart.{Answer, refused, quiet, signal}
-use Rattle.monitor.specs.Calls.{EachAnswer}
+use Rattle.monitor.specs.Calls.{Said, EachAnswer}
 use Rattle.text.specs.declared.lines.ZoneWeights.{ZoneWeights}
 use Rattle.text.specs.Format.{field, fields, weightList}
 use Rattle.print.specs.Refused.{refusedLine}
@@ -26,9 +26,10 @@ use Rattle.claims.specs.Exact.{freeAnswers}
 use Rattle.program_claims.specs.Texts.{TableTextIs, MonitorTextIs}
 use Rattle.program_claims.specs.NumberOnce.{comma, not-number, behind-once}
 use Rattle.program_claims.specs.LinesOnce.{row-shape, standings-once, arl-once, refused-once, quiet-once, signal-once, row-once, percent-once}
-use Rattle.program_claims.specs.Programs.{ruleNumbers, chartNumbers, OneOf, here, there, rows, fivePercents, EachPercent, Figures, figureLines, FiguresHold}
+use Rattle.rules.specs.Numbers.{ruleNumbers, OneOf, here, there}
+use Rattle.program_claims.specs.Programs.{chartNumbers, rows, fivePercents, EachPercent, Figures, figureLines, FiguresHold}
 use Rattle.program_claims.specs.Programs.{TableRefusal, TableProgram, refuses, prints, too-long, bad-line, bad-table}
-use Rattle.program_claims.specs.Programs.{Said, MonitorRefusal, MonitorProgram, bad-rules, bad-sigma}
+use Rattle.program_claims.specs.Programs.{MonitorRefusal, MonitorProgram, bad-rules, bad-sigma}
 use Rattle.program_claims.specs.TableProgram.{table-program}
 use Rattle.program_claims.specs.MonitorProgram.{monitor-program}
 

@@ -9,9 +9,10 @@ use Rattle.rules.specs.declared.refusal.Refusal.{Refusal}
 use Rattle.rules.specs.declared.Checked.the-variants.{Accepted, Refused}
 use Rattle.rules.specs.Refusal.{badSigma, badRuleCount, badRuleBounds, badZoneSet, badWeights, badHorizon, tooManyStates, badLine, tooLong}
 use Rattle.rules.specs.Check.{checkOf}
+use Rattle.rules.specs.Numbers.{OneOf, ruleNumbers}
 use Rattle.monitor.specs.Zone.{minSigma, maxSigma}
-use Rattle.monitor.specs.ReferenceChart.{Answer, refused, quiet, signal, chartAnswers}
-use Rattle.monitor.specs.Calls.{EachAnswer}
+use Rattle.monitor.specs.ReferenceChart.{chartAnswers}
+use Rattle.monitor.specs.Calls.{Said, EachAnswer}
 use Rattle.text.specs.declared.lines.ZoneWeights.{ZoneWeights}
 use Rattle.text.specs.Format.{weightList}
 use Rattle.text.specs.Size.{maxText}
@@ -32,15 +33,7 @@ use Rattle.bracket.specs.Contains.{PlaceContains}
 use Rattle.claims.specs.Exact.{freeAnswers, exactSum, exactMean, reached}
 use Rattle.program_claims.specs.Texts.{TableTextIs, TableStops, MonitorTextIs, MonitorStops}
 
--- x is one of the numbers
-pub data OneOf : List ℕ → ℕ → Type 0 where
-  here : {n x : ℕ} {ns : List ℕ} → x ≡ n → OneOf (n ∷ ns) x
-  there : {n x : ℕ} {ns : List ℕ} → OneOf ns x → OneOf (n ∷ ns) x
-
--- the numbers that a rule list is refused by, and a chart
-abbrev pub ruleNumbers : List ℕ
-ruleNumbers = badRuleCount .number ∷ badRuleBounds 0 .number ∷ badZoneSet 0 .number ∷ []
-
+-- the numbers that a chart is refused by: 2, 3, 4; 8; 9; 10
 abbrev pub chartNumbers : List ℕ
 chartNumbers =
     badRuleCount .number ∷ badRuleBounds 0 .number ∷ badZoneSet 0 .number ∷ badWeights .number ∷ badHorizon .number ∷ tooManyStates .number ∷ []
@@ -119,12 +112,6 @@ pub data TableProgram (s : List ℕ) (printed : List ℕ) : Type 0 where
       → printed ≡ figureLines h f → FiguresHold (weightList w) rs h f → TableProgram s printed
 
 -- ---- the monitor program
-
--- quiet or signal
-abbrev pub Said : Answer → Type 0
-Said (refused n) = ⊥
-Said (quiet n) = Unit {0}
-Said (signal n mask) = Unit {0}
 
 -- The printed bytes are a line for each reading and the total, by what the plain chart says, reading by reading, from an empty row.
 pub record MonitorPrints (centre : ℤ) (sigma : ℕ) (rs : List Rule) (xs : List ℤ) (printed : List ℕ) : Type 0 where

@@ -5,13 +5,12 @@ use lib.Dec.{eqb}
 use lib.IntN.{ℤ}
 use Rattle.rules.specs.declared.RuleList.{RuleList}
 use Rattle.rules.specs.declared.Checked.{Checked}
-use Rattle.rules.specs.Check.{within, orElse, checkOf}
+use Rattle.rules.specs.Check.{within, orElse, unless, checkOf}
 use Rattle.rules.specs.Refusal.{badSigma}
 use Rattle.monitor.specs.Zone.{minSigma, maxSigma}
 use Rattle.monitor.specs.Step.{freshMonitor}
 use Rattle.monitor.specs.ReferenceChart.{Answer}
 use Rattle.monitor.specs.Calls.{monitorAnswers}
-use Rattle.table.specs.Table.{unless}
 use Rattle.parse.specs.declared.monitors.MonitorText.{MonitorText}
 use Rattle.parse.specs.MonitorText.{monitorText, monitorReadings}
 use Rattle.report.specs.Printed.{Printed, printedBy}

@@ -20,7 +20,7 @@ use Rattle.monitor.specs.ZoneLaws.{zone-exists}
 use Rattle.text.specs.Size.{maxText, minPoint}
 use Rattle.rules.specs.Bounds.{zoneCount, maxNumber}
 use Rattle.monitor.specs.Step.{freshMonitor}
-use Rattle.monitor.specs.Calls.{refusalNumber, EachAnswer}
+use Rattle.monitor.specs.Calls.{Said, EachAnswer}
 use Rattle.runlength.specs.Sequence.{AllBelow}
 use Rattle.monitor.specs.Agreement.{no-refused-call}
 use Rattle.monitor.specs.Take.{takenAnswers}
@@ -49,8 +49,8 @@ zones-length centre sigma [] = refl
 zones-length centre sigma (x ∷ xs) = omega (arith, zones-length centre sigma xs)
 
 module _ (l : RuleList) (a : checkOf l ≡ Accepted) (centre : ℤ) (sigma : ℕ) (xs : List ℤ) (few : length xs ≤ maxNumber) where
-  -- with accepted rules no point is refused: each has a line
-  pub no-point-refused : EachAnswer (λ x. refusalNumber x ≡ 0) (readingAnswers l centre sigma xs)
+  -- with accepted rules no point is refused: each is quiet or a signal, and has a line
+  pub no-point-refused : EachAnswer Said (readingAnswers l centre sigma xs)
   no-point-refused = no-refused-call l a (zonesOf centre sigma xs) (zones-exist centre sigma xs) (omega (arith, zones-length centre sigma xs))
 
   -- so the answers are those of points that are taken one by one

@@ -14,7 +14,7 @@ pub fn table_output(text: &[u8], out: &mut [u8; ReportAnswer::TABLE_SIZE]) -> us
     let answer = table_report(text, out);
     match answer {
         ReportAnswer::Written(n) => n,
-        ReportAnswer::Refused(r) => put_refused(out, 0, r),
+        ReportAnswer::Refused(refusal) => put_refused(out, 0, refusal),
     }
 }
 

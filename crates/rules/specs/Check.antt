@@ -6,6 +6,7 @@ use lib.ListN.{getD}
 use lib.Dec.{leb}
 use Rattle.rules.specs.declared.Rule.{Rule}
 use Rattle.rules.specs.declared.RuleList.{RuleList}
+use Rattle.rules.specs.declared.refusal.Refusal.{Refusal}
 use Rattle.rules.specs.declared.Checked.{Checked}
 use Rattle.rules.specs.declared.Checked.the-variants.{Accepted, Refused}
 use Rattle.rules.specs.Bounds.{minRules, maxRules, minWindow, maxWindow, minHits, minZoneSet, maxZoneSet}
@@ -28,6 +29,10 @@ checkRule i r =
 abbrev pub orElse : Checked → Checked → Checked
 orElse Accepted next = next
 orElse (Refused x) next = Refused x
+
+-- accepted where the test holds, else refused
+abbrev pub unless : Bool → Refusal → Checked
+unless t x = cond t Accepted (Refused x)
 
 -- rule by rule, the first of them standing at the index i
 unfoldable pub checkRules : ℕ → List Rule → Checked

@@ -6,3 +6,5 @@ pub mod Check
 pub mod Ready
 pub mod InBounds
 pub mod CheckLaws
+pub mod Numbers
+pub mod NumbersLaws

@@ -17,7 +17,8 @@ use Rattle.monitor.specs.Settled.{CanBeGiven}
 use Rattle.monitor.specs.StepLaws.{move-quiet, move-signal}
 use Rattle.monitor.specs.TakeLaws.{empty-given, quiet-given}
 use Rattle.monitor.specs.ReferenceChart.{rowMask}
-use Rattle.monitor.specs.RowLaws.{stateOfRow, move-of-row, empty-row-state}
+use Rattle.monitor.specs.RowState.{stateOfRow}
+use Rattle.monitor.specs.RowLaws.{move-of-row, empty-row-state}
 use Rattle.runlength.specs.Automaton.{quiet, signal}
 use Rattle.runlength.specs.Listed.{listedAutomaton}
 use Rattle.runlength.specs.Future.{Alike, EqualFuture, Simulation}

@@ -20,7 +20,8 @@ use Rattle.runlength.specs.Chain.{Chain, Proper, pmf, cdf, survival, restricted
 use Rattle.runlength.specs.Conservation.{mass-conservation}
 use Rattle.table.specs.declared.TableFigures.{TableFigures}
 use Rattle.table.specs.declared.TableAnswer.{TableAnswer}
-use Rattle.table.specs.Table.{TableCall, rulesOf, chainOf, unless, chartCheck, tableCheck, TableResult, figuresOf, filled, tableOf, pmfOf}
+use Rattle.rules.specs.Check.{unless}
+use Rattle.table.specs.Table.{TableCall, rulesOf, chainOf, chartCheck, tableCheck, TableResult, figuresOf, filled, tableOf, pmfOf}
 use Rattle.table.specs.Accepted.{AcceptedChart, AcceptedTable}
 use Rattle.table.specs.TableChainLaws.{count-some, count-explored, chain-proper}
 use Rattle.table.specs.ChartLaws.{passed, accepted-chart}

@@ -13,14 +13,14 @@ use Rattle.rules.specs.declared.refusal.Refusal.{Refusal}
 use Rattle.rules.specs.declared.Checked.the-variants.{Accepted, Refused}
 use Rattle.rules.specs.Bounds.{zoneCount, maxStates}
 use Rattle.rules.specs.Refusal.{badWeights, badHorizon, tooManyStates}
-use Rattle.rules.specs.Check.{within, activeRules, checkOf}
+use Rattle.rules.specs.Check.{within, unless, activeRules, checkOf}
 use Rattle.rules.specs.CheckLaws.{both, between, accepted}
 use Rattle.runlength.specs.Scale.{minHorizon, maxHorizon, weightTotal}
 use Rattle.runlength.specs.Sum.{at, sum}
 use Rattle.states.specs.Automata.{stateAutomaton}
 use Rattle.states.specs.Explore.{Explored}
 use Rattle.table.specs.TableChain.{exploredCount, stateCount, chainMoves}
-use Rattle.table.specs.Table.{unless, chartCheck}
+use Rattle.table.specs.Table.{chartCheck}
 use Rattle.table.specs.ChartChecked.{HoldsMoves}
 use Rattle.table.specs.Accepted.{AcceptedChart}
 

@@ -1,17 +1,15 @@
 -- TO BELIEVE: the table operation: what it answers, and what the two lent lists then hold. Definitions.
 use Prim.Native.Nat.{ℕ, suc, _+_, _*_, _/_, _%_}
-use mathlib.Core.Bool.{Bool, cond}
 use mathlib.Core.List.{List}
 use lib.Dec.{leb, eqb}
 use lib.ListN.{length, take}
 use Rattle.rules.specs.declared.Rule.{Rule}
 use Rattle.rules.specs.declared.RuleList.{RuleList}
-use Rattle.rules.specs.declared.refusal.Refusal.{Refusal}
 use Rattle.rules.specs.declared.Checked.{Checked}
 use Rattle.rules.specs.declared.Checked.the-variants.{Accepted, Refused}
 use Rattle.rules.specs.Bounds.{zoneCount, maxStates}
 use Rattle.rules.specs.Refusal.{badWeights, badHorizon, tooManyStates, shortList}
-use Rattle.rules.specs.Check.{within, orElse, activeRules, checkOf}
+use Rattle.rules.specs.Check.{within, orElse, unless, activeRules, checkOf}
 use Rattle.runlength.specs.Scale.{minHorizon, maxHorizon, weightTotal, unitsPerOne}
 use Rattle.runlength.specs.Sum.{at, sum, front}
 use Rattle.runlength.specs.Chain.{Chain, pmf, survival, restrictedMean}
@@ -38,10 +36,6 @@ abbrev pub chainOf : TableCall → Chain
 chainOf t = tableChain (rulesOf t) (t .weights)
 
 -- ---- the refusals in their order
-
--- accepted where the test holds, else refused
-abbrev pub unless : Bool → Refusal → Checked
-unless t x = cond t Accepted (Refused x)
 
 -- of a chart: 2, 3, 4; 8; 9; 10
 unfoldable pub chartCheck : RuleList → List ℕ → ℕ → Checked

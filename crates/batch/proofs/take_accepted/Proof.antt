@@ -19,7 +19,7 @@ use Rattle.monitor.specs.Take.{takenOf}
 use Rattle.monitor.specs.Zone.{minSigma, maxSigma, zoneAt}
 use Rattle.monitor.specs.ZoneLaws.{zone-exists}
 use Rattle.batch.specs.declared.Batch.{Batch}
-use Rattle.batch.specs.Batch.{batchOf, Left}
+use Rattle.batch.specs.Batch.{readingsFrom, Left}
 use Rattle.batch.specs.BatchLaws.{left-all, left-none, left-full, left-signal, left-quiet}
 use Rattle.batch.proofs.take_accepted.Statement.{statement}
 use Rattle.batch.proofs.take_accepted.Tie as tie
@@ -33,8 +33,8 @@ module _ {l : RuleList} {start : Monitor} {centre : ℤ} {sigma : ℕ} {xs : Lis
 
 -- what the loop says of the centre as it is kept holds of the centre as it was given
 at-centre : {centre : ℤ} {b : Batch} (l : RuleList) (m : Monitor) (sigma : ℕ) (xs : List ℤ) → SFits w32 centre
-    → batchOf l m (toZ w32 (ofZ w32 centre)) sigma xs ≡ b → b ≡ batchOf l m centre sigma xs
-at-centre l m sigma xs f e = sym e ∙ ap (λ (t : ℤ). batchOf l m t sigma xs) (toZ-ofZ f)
+    → readingsFrom l m (toZ w32 (ofZ w32 centre)) sigma xs ≡ b → b ≡ readingsFrom l m centre sigma xs
+at-centre l m sigma xs f e = sym e ∙ ap (λ (t : ℤ). readingsFrom l m t sigma xs) (toZ-ofZ f)
 
 abbrev Inv-loop : tie.InvT-loop
 Inv-loop list centre sigma readings len at₀ i₀ at i = (i ≤ len) × Left list at₀ (toZ w32 centre) sigma readings at i

@@ -15,7 +15,7 @@ returns : tie.Need-returns
 returns c =
     let t = c .before .before in
     let a = t .before .before .before .args in
-    report-call (tablePrinted (a .text .now)) (a .out .now) (a .count .now) _ _ (t .table-report .result) _ (t .table-report .ensures) (c .report-code .ensures .0) (c .report-code .ensures .1)
+    report-call (tablePrinted (a .text .now)) (a .out .now) (a .bytes .now) _ _ (t .table-report .result) _ (t .table-report .ensures) (c .report-code .ensures .0) (c .report-code .ensures .1)
 
 pub catrovindy-table-report-spec : {M : Type 1} → statement M
 catrovindy-table-report-spec =

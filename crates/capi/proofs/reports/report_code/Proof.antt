@@ -13,18 +13,18 @@ code-requires c κs = search needs
 enum-known-answer-2 : tie.Need-enum-known-answer-2
 enum-known-answer-2 c = search needs
 
-element-write-count : tie.Need-element-write-count
-element-write-count c = search needs
+element-write-bytes : tie.Need-element-write-bytes
+element-write-bytes c = search needs
 
 returns : tie.Need-returns
 returns c =
     let a = c .before .before .before .before .args in
-    refused-code (a .answer) _ _ (a .count .now) (c .before .before .answer .given .1) (c .code .ensures)
+    refused-code (a .answer) _ _ (a .bytes .now) (c .before .before .answer .given .1) (c .code .ensures)
 
 returns-2 : tie.Need-returns-2
 returns-2 c =
     let a = c .before .before .before .args in
-    written-code (a .answer) _ (a .count .now) (c .before .answer2 .given .1)
+    written-code (a .answer) _ (a .bytes .now) (c .before .answer2 .given .1)
 
 pub report-code-spec : {M : Type 1} → statement M
 report-code-spec =
@@ -33,6 +33,6 @@ report-code-spec =
     enum-known-answer
     code-requires
     enum-known-answer-2
-    element-write-count
+    element-write-bytes
     returns
     returns-2)

@@ -1,0 +1,30 @@
+// The check of a rule list, and the library's version, for callers in C and Rust.
+use crate::codes::code;
+use crate::codes::list_of;
+use crate::sizes::SLOTS;
+use crate::sizes::VERSION;
+use rules::Checked;
+ghost use mathlib.Core.Path.{_≡_};
+ghost use Rattle.rules.specs.Check.{checkOf};
+ghost use Rattle.capi.specs.Codes.{slotList};
+ghost use Rattle.capi.specs.ListCall.{checkCode, version};
+
+// Whether a rule list is accepted: `RuleList::check`. Answers 0, or the refusal.
+#[no_mangle]
+pub extern "C" fn catrovindy_check(slots: &[u32; SLOTS], count: u32) -> u64
+    ensures { λ r. ⌜ r ≡ checkCode (checkOf (slotList (now (slots .entry)) count)) ⌝ }
+{
+    let checked = list_of(*slots, count).check();
+    match checked {
+        Checked::Accepted => 0,
+        Checked::Refused(r) => code(r),
+    }
+}
+
+// The library's version as one number.
+#[no_mangle]
+pub extern "C" fn catrovindy_version() -> u32
+    ensures { λ r. ⌜ r ≡ version ⌝ }
+{
+    VERSION
+}

@@ -1,0 +1,32 @@
+// The bounds of rules, charts and texts.
+use monitor::zone::ZoneAnswer;
+use report::ReportAnswer;
+use rules::RuleList;
+
+pub fn line(name: &[u8], n: u64) {
+    show::number(name, n);
+    show::text(b"\n");
+}
+
+pub fn rules() {
+    line(b"RULES,", RuleList::MAX_RULES as u64);
+    line(b"MAX_WINDOW,", RuleList::MAX_WINDOW as u64);
+    line(b"ZONES,", rules::ZONES as u64);
+    line(b"ALL_ZONES,", RuleList::MAX_ZONE_SET as u64);
+    line(b"MAX_STATES,", RuleList::MAX_STATES as u64);
+    line(b"MAX_COUNT,", rules::MAX_NUMBER as u64);
+}
+
+pub fn charts() {
+    line(b"MAX_SIGMA,", ZoneAnswer::MAX_SIGMA as u64);
+    line(b"WEIGHT_TOTAL,", runlength::WEIGHT_TOTAL);
+    line(b"UNITS_PER_ONE,", runlength::UNITS_PER_ONE);
+    line(b"MAX_HORIZON,", runlength::MAX_HORIZON as u64);
+}
+
+pub fn texts() {
+    line(b"MAX_TEXT,", text::MAX_TEXT as u64);
+    line(b"MAX_ROWS,", print::MAX_ROWS as u64);
+    line(b"TABLE_SIZE,", ReportAnswer::TABLE_SIZE as u64);
+    line(b"MONITOR_SIZE,", ReportAnswer::MONITOR_SIZE as u64);
+}
