@@ -45,7 +45,8 @@ fn write_batch(
 
 // Readings one after another until one signals or none is left: `batch::take_readings`. Answers 0, with the monitor for the next reading,
 // and in `answer` how many readings were taken, the count and the mask of the last of them (the mask is 0 where all were quiet), and the
-// number that the next reading would be refused by, or 0. Or, where the first reading is refused, answers the refusal and alters nothing.
+// number that the next reading would be refused by where that stopped it, or 0. Or, where any first reading would be refused, also where there
+// is none, answers that refusal and alters nothing.
 #[no_mangle]
 pub extern "C" fn catrovindy_batch(
     slots: &[u32; SLOTS],

@@ -1,6 +1,6 @@
 -- CLAIMS: the monitor program's text. It is accepted exactly where it is the lines of a chart, rules and readings, and it then gives these.
 use Prim.Native.Nat.{ℕ, _+_, _≤_, _<_}
-use mathlib.Core.Path.{_≡_, refl, ap, _∙_}
+use mathlib.Core.Path.{_≡_, refl, sym, ap, _∙_}
 use mathlib.Core.Bool.{Bool, true, false, cond}
 use mathlib.Core.List.{List, [], _∷_, _++_}
 use native.Mathlib.Omega.{arith}
@@ -23,10 +23,12 @@ use Rattle.text.specs.Kind.{rule, chart, point, kindOf, NotOf}
 use Rattle.text.specs.KindLaws.{other-kind, chart-or-none, chart-passed}
 use Rattle.text.specs.OnLine.{onChart}
 use Rattle.parse.specs.declared.monitors.MonitorText.{MonitorText}
+use Rattle.rules.specs.Bounds.{maxRules}
+use Rattle.rules.specs.Check.{activeRules}
 use Rattle.rules.specs.Refusal.{badLine, tooLong}
 use Rattle.text.specs.Size.{maxText}
-use Rattle.parse.specs.Rules.{rulesAt, afterRules}
-use Rattle.parse.specs.RulesLaws.{rules-end}
+use Rattle.parse.specs.Rules.{rulesAt, afterRules, ruleListOf}
+use Rattle.parse.specs.RulesLaws.{rules-end, active-rules}
 use Rattle.parse.specs.Readings.{readingsAt, afterPoints}
 use Rattle.parse.specs.ReadingsLaws.{points-end}
 use Rattle.parse.specs.MonitorText.{refusedMonitor, readMonitor, monitorEnd, monitorText, monitorReadings}
@@ -188,6 +190,24 @@ monitor-accepted s z = go (monitorText s) (monitor-reading s) z
     go t (too-long l) z = absurd (omega arith)
     go t (stopped front rest place l e st p) z = absurd (omega arith)
     go t (read c d rs at xs i e) z = (c, d, rs, xs, i)
+
+-- The same by the equations with what is read, for the rules that a list has slots for.
+pub monitor-exactly : {s : List ℕ} {c : ℤ} {d : ℕ} {rs : List Rule} (at : ℕ) {xs : List ℤ} → length rs ≤ maxRules
+    → monitorText s ≡ readMonitor c d rs at xs → monitorReadings s ≡ xs → MonitorTextIs s c d rs xs
+unfolding readMonitor ruleListOf
+monitor-exactly {s} {c} {d} {rs} at {xs} few e readings =
+    let a = monitor-accepted s (ap (λ (t : MonitorText). t .refusal .number) e) in
+    let r = monitor-read (a .4) in
+    let same : readMonitor (a .0) (a .1) (a .2) (r .0) (a .3) ≡ readMonitor c d rs at xs = sym (r .1) ∙ e in
+    let cs : a .0 ≡ c = ap (λ (t : MonitorText). t .centre) same in
+    let ds : a .1 ≡ d = ap (λ (t : MonitorText). t .sigma) same in
+    let count : length (a .2) ≡ length rs = ap (λ (t : MonitorText). t .list .len) same in
+    let list : activeRules (ruleListOf (a .2)) ≡ activeRules (ruleListOf rs) = ap (λ (t : MonitorText). activeRules (t .list)) same in
+    let rules : a .2 ≡ rs = sym (active-rules (a .2) (omega arith)) ∙ list ∙ active-rules rs few in
+    put cs ds rules (sym (r .2) ∙ readings) (a .4)
+  where
+    put : {v v′ : ℤ} {n n′ : ℕ} {l l′ : List Rule} {q q′ : List ℤ} → v ≡ v′ → n ≡ n′ → l ≡ l′ → q ≡ q′ → MonitorTextIs s v n l q → MonitorTextIs s v′ n′ l′ q′
+    put a b c d t = rw (← a, ← b, ← c, ← d) t
 
 -- ---- and a text that goes wrong is refused by 16, there
 
