@@ -1,9 +1,11 @@
 #!/usr/bin/env bash
-# Proves every crate from nothing, tries every must-fail edit, runs every program; then compares the proved library with a second
-# implementation, and runs the examples, the callers in C and Rust, and the README's commands. The last line is the prover's own count; it is
-# printed only where everything passed.
+# Installs what is missing. Proves every crate from nothing, tries every must-fail edit, runs every program; then tries the programs' edges,
+# compares the proved library with a second implementation, runs the examples and the callers in C, C++ and Rust, measures the library's stack,
+# checks the documents' names, and runs the README's commands. The last line is the prover's own count; it is printed only where everything passed.
 set -euo pipefail
 cd "$(dirname "$0")"
+
+bash scripts/needs.sh rt bc cargo rustc gcc cc g++ c++ --optional gnuplot clang
 
 log=$(mktemp)
 trap 'rm -f "$log"' EXIT
@@ -20,10 +22,13 @@ if ! [[ $verdict =~ ^[0-9]+\ passed,\ 0\ failed$ ]]; then
   exit 1
 fi
 
+bash scripts/test-edges.sh
 bash bench/differential.sh
 bash examples/run.sh | tail -n 1
 bash callers/run.sh
 cargo test --quiet --offline --manifest-path rust/Cargo.toml --target-dir target/rust-tests >/dev/null
+bash scripts/test-stack.sh
+bash scripts/test-docs.sh
 bash scripts/test-readme.sh
 
 echo "$verdict"

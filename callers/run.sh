@@ -1,11 +1,12 @@
 #!/usr/bin/env bash
-# Builds both models of a caller, runs them, and compares what each prints with soak.out. Fails at any difference.
+# Builds the models of a caller, runs them, and compares what each prints with soak.out. Then tries the edges of the calls, and whether
+# compilers tell of wrong ones. Fails at any difference.
 set -euo pipefail
 cd "$(dirname "${BASH_SOURCE[0]}")"
 bash build.sh
 
 failed=0
-for program in soak_c soak_rust; do
+for program in soak_c soak_cpp soak_rust; do
   got=../target/callers/$program.out
   if ! "../target/callers/$program" >"$got"; then
     echo "FAILED $program: it did not end well"
@@ -18,4 +19,19 @@ for program in soak_c soak_rust; do
     echo "same   $program"
   fi
 done
+
+for program in edges_c edges_cpp; do
+  if ! "../target/callers/$program"; then
+    echo "FAILED $program"
+    failed=1
+  else
+    echo "passed $program"
+  fi
+done
+
+if ! bash wrong.sh; then
+  failed=1
+else
+  echo "passed wrong calls"
+fi
 exit "$failed"

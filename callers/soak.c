@@ -1,6 +1,6 @@
 /*
- * A soak from C: plan it with the run-length table, then run the chart on the readings. soak.rs does the same from Rust, and both print the
- * same lines. See build.sh for the commands.
+ * A soak from C or C++: plan it with the run-length table, then run the chart on the readings. soak.rs does the same from Rust, and all print
+ * the same lines. See build.sh for the commands.
  */
 #include "catrovindy.h"
 
@@ -36,9 +36,19 @@ static uint8_t table_lines[CATROVINDY_TABLE_SIZE], monitor_lines[CATROVINDY_MONI
 /* For calls that this program knows to be accepted. */
 static void must(uint64_t code) {
     if (code != CATROVINDY_ACCEPTED) {
-        fprintf(stderr, "refused,%" PRIu32 ",%" PRIu32 "\n", catrovindy_number(code), catrovindy_place(code));
+        fprintf(stderr, "refused,%" PRIu32 ",%" PRIu32 ",%s\n", catrovindy_number(code), catrovindy_place(code), catrovindy_meaning(code));
         exit(1);
     }
+}
+
+/* Before all else: does the library belong to the header, and are the rules accepted? */
+static void check(void) {
+    if (catrovindy_version() != CATROVINDY_VERSION_NUMBER) {
+        fprintf(stderr, "the library is not the one of this header\n");
+        exit(1);
+    }
+    must(catrovindy_check(rules, rule_count));
+    printf("version,%s\n", CATROVINDY_VERSION);
 }
 
 /* The chance of a signal by n: the exact one is at least the first and less than the second, in units of 2^-60. */
@@ -63,29 +73,30 @@ static void plan(void) {
         uint32_t answer[CATROVINDY_BRACKET_ANSWER];
         must(catrovindy_bracket(pmf, HORIZON, (uint32_t)states, percents[i], answer));
         printf("percentile,%" PRIu32 ",", percents[i]);
-        switch (answer[0]) {
-        case CATROVINDY_AT: printf("at,%" PRIu32 "\n", answer[1]); break;
-        case CATROVINDY_BETWEEN: printf("between,%" PRIu32 ",%" PRIu32 "\n", answer[1], answer[2]); break;
-        case CATROVINDY_OPEN: printf("open,%" PRIu32 "\n", answer[1]); break;
-        default: printf("beyond,%" PRIu32 "\n", answer[1]);
+        uint32_t first = answer[CATROVINDY_BRACKET_FIRST], second = answer[CATROVINDY_BRACKET_SECOND];
+        switch (answer[CATROVINDY_BRACKET_KIND]) {
+        case CATROVINDY_AT: printf("at,%" PRIu32 "\n", first); break;
+        case CATROVINDY_BETWEEN: printf("between,%" PRIu32 ",%" PRIu32 "\n", first, second); break;
+        case CATROVINDY_OPEN: printf("open,%" PRIu32 "\n", first); break;
+        default: printf("beyond,%" PRIu32 "\n", first);
         }
     }
 }
 
 /* (c) The same percentiles and the mean's bounds as doubles, for a plotter; over 100 points only, so that the last ones lie beyond. */
 static void plot(void) {
-    uint32_t kinds[CATROVINDY_KINDS];
-    double values[CATROVINDY_VALUES];
-    must(catrovindy_plot(rules, rule_count, in_control, 100, pmf, HORIZON, survival, HORIZON, kinds, values));
-    for (int i = CATROVINDY_P5; i <= CATROVINDY_P95; i++) {
+    struct catrovindy_box_plot plot;
+    must(catrovindy_fill_box_plot(rules, rule_count, in_control, 100, pmf, HORIZON, survival, HORIZON, &plot));
+    const struct catrovindy_plot_item items[5] = {plot.p5, plot.p25, plot.p50, plot.p75, plot.p95};
+    for (int i = 0; i < 5; i++) {
         static const char *const names[] = {"", "point", "span", "open", "beyond"};
-        printf("plot,%" PRIu32 ",%s,%.1f", percents[i], names[kinds[i]], values[2 * i]);
-        if (kinds[i] == CATROVINDY_BETWEEN) printf(",%.1f", values[2 * i + 1]);
+        printf("plot,%" PRIu32 ",%s,%.1f", percents[i], names[items[i].kind], items[i].first);
+        if (items[i].kind == CATROVINDY_BETWEEN) printf(",%.1f", items[i].second);
         printf("\n");
     }
-    printf("plot,mean,%.12f,%.12f\n", values[CATROVINDY_VALUE_LOWER], values[CATROVINDY_VALUE_UPPER]);
-    if (kinds[CATROVINDY_KIND_IQR]) {
-        printf("plot,iqr,%.1f\n", values[CATROVINDY_VALUE_IQR]);
+    printf("plot,mean,%.12f,%.12f\n", plot.lower, plot.upper);
+    if (plot.has_iqr) {
+        printf("plot,iqr,%.1f\n", plot.iqr);
     } else {
         printf("plot,iqr,none\n");
     }
@@ -115,14 +126,32 @@ static void watch_batches(uint64_t *state, uint32_t *points) {
         uint64_t answer[CATROVINDY_BATCH_ANSWER];
         must(catrovindy_batch(rules, rule_count, state, points, CENTRE, SIGMA, readings + done, READINGS - done, answer));
         done += answer[CATROVINDY_BATCH_TAKEN];
-        const char *why = answer[CATROVINDY_BATCH_MASK] ? "signal" : answer[CATROVINDY_BATCH_REFUSAL] ? "refusal" : "end";
+        const char *why = answer[CATROVINDY_BATCH_MASK] ? "signal" : catrovindy_batch_full(answer) ? "full" : "end";
         printf("batch,%" PRIu64 ",%s,%" PRIu64 ",%" PRIu64 "\n", answer[CATROVINDY_BATCH_TAKEN], why, answer[CATROVINDY_BATCH_COUNT],
                answer[CATROVINDY_BATCH_MASK]);
     }
     printf("batches,%zu,%" PRIu64 ",%" PRIu32 "\n", done, *state, *points);
 }
 
-/* (f) A refusal: the second rule's set has a zone that does not exist. All that was lent is as it was. */
+/* (f) A signal by two rules at once: of a list of one's own, the rules with index 0 and 1 hold at the second point. */
+static void both(void) {
+    static const uint32_t own[CATROVINDY_SLOTS] = {
+        2, 2, CATROVINDY_SET_A_OR_B_ABOVE, /* both of the last two in A or B above the centre */
+        2, 3, CATROVINDY_SET_A_OR_B_ABOVE, /* two of the last three */
+        1, 1, CATROVINDY_SET_S,            /* one beyond three sigma */
+    };
+    static const int32_t high[3] = {CENTRE + 2 * SIGMA, CENTRE + 2 * SIGMA + 1, CENTRE};
+    uint64_t state = 0, answer[CATROVINDY_BATCH_ANSWER];
+    uint32_t points = 0;
+    must(catrovindy_batch(own, 3, &state, &points, CENTRE, SIGMA, high, 3, answer));
+    printf("both,%" PRIu64 ",%" PRIu64, answer[CATROVINDY_BATCH_TAKEN], answer[CATROVINDY_BATCH_MASK]);
+    for (int i = 0; i < 3; i++) {
+        if (answer[CATROVINDY_BATCH_MASK] >> i & 1) printf(",rule %d", i);
+    }
+    printf("\n");
+}
+
+/* (g) A refusal: the second rule's set has a zone that does not exist. All that was lent is as it was. */
 static void refusal(void) {
     uint32_t wrong[CATROVINDY_SLOTS] = CATROVINDY_WESTERN_ELECTRIC;
     uint64_t lent[2][3] = {{7, 7, 7}, {8, 8, 8}}, figures[CATROVINDY_FIGURES] = {9, 9, 9, 9};
@@ -133,9 +162,10 @@ static void refusal(void) {
     uint64_t code = catrovindy_table(wrong, rule_count, in_control, 3, lent[0], 3, lent[1], 3, figures);
     int kept = memcmp(lent, lent_before, sizeof lent) == 0 && memcmp(figures, figures_before, sizeof figures) == 0;
     printf("refused,%" PRIu32 ",%" PRIu32 ",%s\n", catrovindy_number(code), catrovindy_place(code), kept ? "kept" : "altered");
+    printf("meaning,%s\n", catrovindy_meaning(code));
 }
 
-/* (g) The two programs, text in and text out. */
+/* (h) The two programs, text in and text out. */
 static void reports(void) {
     uint64_t bytes;
     must(catrovindy_table_report((const uint8_t *)table_text, strlen(table_text), table_lines, &bytes));
@@ -147,11 +177,13 @@ static void reports(void) {
 int main(void) {
     uint64_t state, batch_state;
     uint32_t points, batch_points;
+    check();
     plan();
     plot();
     watch(&state, &points);
     watch_batches(&batch_state, &batch_points);
     printf("%s\n", state == batch_state && points == batch_points ? "alike" : "different");
+    both();
     refusal();
     reports();
     return 0;

@@ -1,6 +1,7 @@
-//! A soak from Rust: plan it with the run-length table, then run the chart on the readings. soak.c does the same from C, and both print the
-//! same lines. See build.sh for the commands.
-use catrovindy::{monitor_report, table, table_report, zone, BoxPlot, Bracket, Monitor, PlotItem, Refusal, Rule, RuleList, Table, Weights};
+//! A soak from Rust: plan it with the run-length table, then run the chart on the readings. soak.c does the same from C and C++, and all
+//! print the same lines. See build.sh for the commands.
+use catrovindy::{monitor_report, table, table_report, version, zone, SET_A_OR_B_ABOVE, SET_S, VERSION, VERSION_NUMBER};
+use catrovindy::{Batch, BoxPlot, Bracket, Monitor, PlotItem, Refusal, Rule, RuleList, Table, Weights};
 use std::io::Write;
 
 const HORIZON: u32 = 1000;
@@ -22,6 +23,16 @@ const READINGS: [i32; 28] = [
 
 const TABLE_TEXT: &[u8] = b"weights,0,536870912,0,0,536870912,0,0\nrule,2,2,2\nhorizon,4\n";
 const MONITOR_TEXT: &[u8] = b"chart,100,10\nrule,1,1,1\nrule,2,3,2\npoint,121\npoint,100\npoint,121\npoint,131\n";
+
+/// Before all else: does the library belong to the crate, and are the rules accepted?
+fn check() -> Result<(), Box<dyn std::error::Error>> {
+    if version() != VERSION_NUMBER {
+        return Err("the library is not the one of this crate".into());
+    }
+    RULES.check()?;
+    println!("version,{VERSION}");
+    Ok(())
+}
 
 /// (a) How likely is a sound core to be flagged, and (b) after how many points?
 fn plan() -> Result<(), Refusal> {
@@ -85,32 +96,47 @@ fn watch_batches() -> Result<Monitor, Refusal> {
     let mut done = 0;
     while done < READINGS.len() {
         let batch = monitor.take(&RULES, CENTRE, SIGMA, &READINGS[done..])?;
-        done += batch.taken;
-        let why = match batch.refusal {
-            _ if batch.last.is_signal() => "signal",
-            Some(_) => "refusal",
-            None => "end",
+        done += batch.taken();
+        let why = match batch {
+            Batch::Signal { .. } => "signal",
+            Batch::Full { .. } => "full",
+            Batch::Quiet { .. } => "end",
         };
-        println!("batch,{},{why},{},{}", batch.taken, batch.last.count, batch.last.mask);
+        println!("batch,{},{why},{},{}", batch.taken(), batch.last().count, batch.last().mask);
     }
     println!("batches,{done},{},{}", monitor.state, monitor.points);
     Ok(monitor)
 }
 
-/// (f) A refusal: the second rule's set has a zone that does not exist. All that was lent is as it was.
+/// (f) A signal by two rules at once: of a list of one's own, the rules with index 0 and 1 hold at the second point.
+fn both() -> Result<(), Refusal> {
+    let own = RuleList::new()
+        .with(Rule::new(2, 2, SET_A_OR_B_ABOVE)) // both of the last two in A or B above the centre
+        .with(Rule::new(2, 3, SET_A_OR_B_ABOVE)) // two of the last three
+        .with(Rule::new(1, 1, SET_S)); // one beyond three sigma
+    let sigma = SIGMA as i32;
+    let batch = Monitor::fresh().take(&own, CENTRE, SIGMA, &[CENTRE + 2 * sigma, CENTRE + 2 * sigma + 1, CENTRE])?;
+    let mask = batch.last().mask;
+    let names: String = (0..3).filter(|i| mask >> i & 1 == 1).map(|i| format!(",rule {i}")).collect();
+    println!("both,{},{mask}{names}", batch.taken());
+    Ok(())
+}
+
+/// (g) A refusal: the second rule's set has a zone that does not exist. All that was lent is as it was.
 fn refusal() {
     let wrong: RuleList = RULES.rules().enumerate().map(|(i, rule)| if i == 1 { Rule { zones: 128, ..rule } } else { rule }).collect();
     let (mut pmf, mut survival) = ([7; 3], [8; 3]);
     match table(&wrong, &IN_CONTROL, 3, &mut pmf, &mut survival) {
         Ok(_) => println!("accepted"),
-        Err(Refusal { number, place }) => {
+        Err(refusal) => {
             let kept = if (pmf, survival) == ([7; 3], [8; 3]) { "kept" } else { "altered" };
-            println!("refused,{number},{place},{kept}");
+            println!("refused,{},{},{kept}", refusal.number, refusal.place);
+            println!("meaning,{}", refusal.meaning());
         }
     }
 }
 
-/// (g) The two programs, text in and text out.
+/// (h) The two programs, text in and text out.
 fn reports() -> Result<(), Box<dyn std::error::Error>> {
     let mut out = std::io::stdout();
     out.write_all(&table_report(TABLE_TEXT)?)?;
@@ -119,10 +145,12 @@ fn reports() -> Result<(), Box<dyn std::error::Error>> {
 }
 
 fn main() -> Result<(), Box<dyn std::error::Error>> {
+    check()?;
     plan()?;
     plot()?;
     let (monitor, batched) = (watch()?, watch_batches()?);
     println!("{}", if monitor == batched { "alike" } else { "different" });
+    both()?;
     refusal();
     reports()
 }

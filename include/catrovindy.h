@@ -1,19 +1,25 @@
 /*
  * Catrovindy: run-length tables and monitors for runs-rules control charts.
  *
- * Link with target/staticlib/libcapi.a, which `scripts/library.sh` writes. It needs nothing but memcpy and memset.
+ * Link with target/staticlib/libcapi.a, which `bash scripts/library.sh` writes. It needs nothing but memcpy and memset. The header is for
+ * C99 and C++11, and for what came after them.
  *
  * Words. A point lies in one of seven zones by its distance from the centre. A rule k,m,Z holds where at least k of the last m points lie
  * in the zones of Z, the sum of 2^zone; where fewer than m points exist, all of them count. A chart signals where some rule holds, and a
  * signal clears it. The run length is the number of the first point that signals. A unit is 2^-60.
  *
- * Answers. Every function answers 0 where it accepts. Else it answers a refusal: its number in the low 32 bits, its place above them. The
- * place is the rule's index from 0 for 3 and 4, the line from 1 for 16, else 0. The refusals of each function are listed in the order in
- * which they are looked for; the first that applies is the answer. There are no others. A refusal alters nothing that was lent.
+ * Codes. What a function returns is a code: 0 where the call is accepted, else a refusal with its number in the low 32 bits and its place
+ * above them; only catrovindy_version and the helpers return something else. catrovindy_number and catrovindy_place take a code apart, and
+ * catrovindy_meaning says it in words. The place is the rule's index from 0 for 3 and 4, the line from 1 for 16, else 0. The refusals of each
+ * function are listed in the order in which they are looked for; the first that applies is the code. There are no others. A refused call
+ * alters nothing that was lent. A compiler warns where a code is ignored.
  *
- * What the caller sees to. Every pointer is valid and aligned for the size that is given with it, and not null, not even where a length is
- * 0. What is not marked `written only` holds values. No array or list that a function writes to overlaps another one of the same call.
- * Nothing else is asked: every number may have any value.
+ * Arrays and lists. An array has the number of places that its declaration gives; a compiler tells where it sees a shorter one handed over.
+ * A list comes with its length. What is marked `written only` need not hold values; all else does.
+ *
+ * What the caller sees to. Every pointer is valid and aligned for the places that are given with it, and not null; only a list of length 0
+ * may be null. No array or list that a function writes to overlaps another one of the same call. Nothing else is asked: every number may
+ * have any value.
  *
  * Threads. The functions keep nothing between calls and share nothing, so they may run at the same time on different arrays. They take no
  * memory from the heap; 256 KiB of stack are enough for any call.
@@ -24,12 +30,34 @@
 #include <stddef.h>
 #include <stdint.h>
 
+/* Stands before a function that returns a code: the compiler warns where the code is ignored. */
+#if (defined(__cplusplus) && __cplusplus >= 201703L) || (!defined(__cplusplus) && defined(__STDC_VERSION__) && __STDC_VERSION__ >= 202311L)
+#define CATROVINDY_CODE [[nodiscard]]
+#elif defined(__GNUC__)
+#define CATROVINDY_CODE __attribute__((warn_unused_result))
+#else
+#define CATROVINDY_CODE
+#endif
+
+/* Stands before the number of places of an array that is handed over. C++ has no such word; see the end of this header. */
+#ifdef __cplusplus
+#define CATROVINDY_AT_LEAST
+#else
+#define CATROVINDY_AT_LEAST static
+#endif
+
 #ifdef __cplusplus
 extern "C" {
 #endif
 
-/* The version of this header; the Rust crate has the same. */
-#define CATROVINDY_VERSION "0.2.0"
+/* ---- The version */
+
+/* The version of this header, as text and as major * 10000 + minor * 100 + patch. The Rust crate has the same. */
+#define CATROVINDY_VERSION "0.3.0"
+#define CATROVINDY_VERSION_NUMBER 300
+
+/* The version of the library, as a number: CATROVINDY_VERSION_NUMBER where the library belongs to this header. It is no code. */
+uint32_t catrovindy_version(void);
 
 /* ---- Sizes and bounds */
 
@@ -58,6 +86,8 @@ extern "C" {
 #define CATROVINDY_KINDS 6
 #define CATROVINDY_VALUES 13
 
+/* ---- Zones and zone sets */
+
 /* The zones. With t = reading - centre and d = sigma; a reading on a limit belongs to the inner zone. */
 enum {
     CATROVINDY_ZONE_S = 0,  /* t > 3d or t < -3d */
@@ -67,6 +97,23 @@ enum {
     CATROVINDY_ZONE_C2 = 4, /* -d <= t < 0 */
     CATROVINDY_ZONE_B2 = 5, /* -2d <= t < -d */
     CATROVINDY_ZONE_A2 = 6  /* -3d <= t < -2d */
+};
+
+/* The zone sets, for the Z of a rule. Sets are joined by |. S is on both sides of the centre, so that no set of one side has it. */
+enum {
+    CATROVINDY_SET_S = 1,            /* beyond three sigma, on either side */
+    CATROVINDY_SET_A1 = 2,           /* A above the centre */
+    CATROVINDY_SET_B1 = 4,           /* B above */
+    CATROVINDY_SET_C1 = 8,           /* C above, with the centre itself */
+    CATROVINDY_SET_C2 = 16,          /* C below the centre */
+    CATROVINDY_SET_B2 = 32,          /* B below */
+    CATROVINDY_SET_A2 = 64,          /* A below */
+    CATROVINDY_SET_A_OR_B_ABOVE = 6, /* above the centre by more than one sigma, and at most three */
+    CATROVINDY_SET_A_OR_B_BELOW = 96,
+    CATROVINDY_SET_ABOVE = 14, /* at the centre, or above it by at most three sigma */
+    CATROVINDY_SET_BELOW = 112,
+    CATROVINDY_SET_C = 24,         /* within one sigma of the centre, on either side */
+    CATROVINDY_SET_OUTSIDE_C = 103 /* more than one sigma from the centre, on either side */
 };
 
 /* ---- Refusals */
@@ -92,14 +139,39 @@ enum {
     CATROVINDY_LONG_TEXT = 17        /* the text has more than 65,536 bytes */
 };
 
-/* The refusal's number, 0 for an accepted call. */
+/* The number of a code: 0 for an accepted call, else the refusal's, 1 to 17. */
 static inline uint32_t catrovindy_number(uint64_t code) {
     return (uint32_t)(code & 0xFFFFFFFFu);
 }
 
-/* The refusal's place: the rule's index from 0 for 3 and 4, the line from 1 for 16, else 0. */
+/* The place of a code: the rule's index from 0 for 3 and 4, the line from 1 for 16, else 0. */
 static inline uint32_t catrovindy_place(uint64_t code) {
     return (uint32_t)(code >> 32);
+}
+
+/* What a code means, in one sentence. The Rust crate says the same words. */
+static inline const char *catrovindy_meaning(uint64_t code) {
+    switch (catrovindy_number(code)) {
+    case CATROVINDY_ACCEPTED: return "The call is accepted.";
+    case CATROVINDY_BAD_SIGMA: return "The chart's sigma is outside 1 to 65,535.";
+    case CATROVINDY_BAD_RULE_COUNT: return "There are no rules, or more than eight.";
+    case CATROVINDY_BAD_RULE: return "A rule's m is outside 1 to 9, or its k is outside 1 to m.";
+    case CATROVINDY_BAD_ZONE_SET: return "A rule's zone set is 0 or over 127: it has no zone, or one that does not exist.";
+    case CATROVINDY_BAD_STATE: return "The monitor's state cannot have come from these rules and this count of points.";
+    case CATROVINDY_BAD_ZONE: return "The zone is over 6: there is no such zone.";
+    case CATROVINDY_BAD_COUNT: return "The monitor has counted 4,294,967,295 points with no signal, and can count no further.";
+    case CATROVINDY_BAD_WEIGHTS: return "The weights of the seven zones do not sum to 2^30, which is 1,073,741,824.";
+    case CATROVINDY_BAD_HORIZON: return "The horizon is outside 1 to 65,535, or in a text outside 1 to 4,096.";
+    case CATROVINDY_BAD_STATE_COUNT: return "The rules have more than 1,024 states, too many for a table.";
+    case CATROVINDY_SHORT_LIST: return "A list that was lent for the table is shorter than the horizon.";
+    case CATROVINDY_BAD_LIST: return "The list of chances is empty, or has more than 65,535 places.";
+    case CATROVINDY_BAD_N: return "The number of states is outside 1 to 1,024.";
+    case CATROVINDY_BAD_PERCENT: return "The percent is outside 1 to 99.";
+    case CATROVINDY_BAD_CHANCES: return "The chances sum to more than 2^60, which stands for one.";
+    case CATROVINDY_BAD_LINE: return "A line of the text is missing, is not the one expected, or cannot be read.";
+    case CATROVINDY_LONG_TEXT: return "The text has more than 65,536 bytes.";
+    default: return "There is no such refusal.";
+    }
 }
 
 /* ---- Rule lists */
@@ -110,11 +182,20 @@ static inline uint32_t catrovindy_place(uint64_t code) {
  *   count: how many rules there are. The slots after them may hold anything.
  * The two ready lists are initialisers:
  *   static const uint32_t rules[CATROVINDY_SLOTS] = CATROVINDY_WESTERN_ELECTRIC;
+ * A list of one's own: at least two of the last three points in A or B above the centre, or one beyond three sigma.
+ *   static const uint32_t rules[CATROVINDY_SLOTS] = {2, 3, CATROVINDY_SET_A_OR_B_ABOVE, 1, 1, CATROVINDY_SET_S};
  */
 #define CATROVINDY_WESTERN_ELECTRIC { 1, 1, 1, 2, 3, 64, 2, 3, 2, 4, 5, 96, 4, 5, 6, 8, 8, 112, 8, 8, 14, 0, 0, 0 }
 #define CATROVINDY_WESTERN_ELECTRIC_COUNT 7
 #define CATROVINDY_DUNCAN { 1, 1, 1, 2, 2, 64, 2, 2, 2, 5, 5, 96, 5, 5, 6, 0, 0, 0, 0, 0, 0, 0, 0, 0 }
 #define CATROVINDY_DUNCAN_COUNT 5
+
+/*
+ * Whether the rules are accepted, before a chart is run or planned with them. Nothing is written.
+ *   slots, count: the rules.
+ * Refused by 2; then rule by rule 3, 4.
+ */
+CATROVINDY_CODE uint64_t catrovindy_check(const uint32_t slots[CATROVINDY_AT_LEAST CATROVINDY_SLOTS], uint32_t count);
 
 /* ---- The monitor */
 
@@ -124,7 +205,7 @@ static inline uint32_t catrovindy_place(uint64_t code) {
  *   zone: 1 place, written only. Then holds the zone, 0 to 6.
  * Refused by 1.
  */
-uint64_t catrovindy_zone(int32_t reading, int32_t centre, uint32_t sigma, uint32_t *zone);
+CATROVINDY_CODE uint64_t catrovindy_zone(int32_t reading, int32_t centre, uint32_t sigma, uint32_t zone[CATROVINDY_AT_LEAST 1]);
 
 /*
  * One point. The monitor is kept by the caller as two numbers, the state and the count of points since the last signal. Both are 0 at the
@@ -139,7 +220,9 @@ uint64_t catrovindy_zone(int32_t reading, int32_t centre, uint32_t sigma, uint32
  * In the state, byte i belongs to the rule with index i, and bit a - 1 of it is a remembered hit a points back. 5 is for a rule with k or
  * more hits, a hit that should be forgotten, a hit older than the points counted, or a hit in a byte beyond the rules.
  */
-uint64_t catrovindy_step(const uint32_t *slots, uint32_t count, uint64_t *state, uint32_t *points, uint32_t zone, uint32_t *answer);
+CATROVINDY_CODE uint64_t catrovindy_step(const uint32_t slots[CATROVINDY_AT_LEAST CATROVINDY_SLOTS], uint32_t count,
+                                         uint64_t state[CATROVINDY_AT_LEAST 1], uint32_t points[CATROVINDY_AT_LEAST 1], uint32_t zone,
+                                         uint32_t answer[CATROVINDY_AT_LEAST CATROVINDY_STEP_ANSWER]);
 
 enum {
     CATROVINDY_STEP_COUNT = 0, /* answer[0]: the count with this point in it */
@@ -147,23 +230,25 @@ enum {
 };
 
 /*
- * Readings one after another, until one signals, one would be refused, or none is left. To go on after a signal, call again with the
- * readings that were not taken.
+ * Readings one after another, until one signals, the count is full, or none is left. To go on after a signal, call again with the readings
+ * that were not taken.
  *   slots, count, state, points: as for a step. They are then as after a step for each reading taken.
- *   centre, sigma: the chart.
- *   readings: `length` numbers; may be none, which is always accepted.
+ *   centre, sigma: the chart; any numbers.
+ *   readings: `length` numbers; may be none.
  *   answer: CATROVINDY_BATCH_ANSWER places, written only.
- * Refused, where there are readings and the first of them is refused, by 2; then rule by rule 3, 4; 1; 5; 7. Only 7 can come at a later
- * reading: the call is then accepted, and answer[3] is 7.
+ * Refused by 2; then rule by rule 3, 4; 1; 5; 7, as a first reading is; so too where there are no readings. The code is never 7 once a
+ * reading was taken: where the count is then full before the next reading, the call is accepted, and catrovindy_batch_full says so.
  */
-uint64_t catrovindy_batch(const uint32_t *slots, uint32_t count, uint64_t *state, uint32_t *points, int32_t centre, uint32_t sigma,
-                          const int32_t *readings, size_t length, uint64_t *answer);
+CATROVINDY_CODE uint64_t catrovindy_batch(const uint32_t slots[CATROVINDY_AT_LEAST CATROVINDY_SLOTS], uint32_t count,
+                                          uint64_t state[CATROVINDY_AT_LEAST 1], uint32_t points[CATROVINDY_AT_LEAST 1], int32_t centre,
+                                          uint32_t sigma, const int32_t *readings, size_t length,
+                                          uint64_t answer[CATROVINDY_AT_LEAST CATROVINDY_BATCH_ANSWER]);
 
 enum {
     CATROVINDY_BATCH_TAKEN = 0,  /* answer[0]: how many readings were taken */
-    CATROVINDY_BATCH_COUNT = 1,  /* answer[1]: the count with the last of them in it */
+    CATROVINDY_BATCH_COUNT = 1,  /* answer[1]: the count with the last of them in it; where none was taken, the count as it was */
     CATROVINDY_BATCH_MASK = 2,   /* answer[2]: the rules that hold at the last of them; 0 where all were quiet */
-    CATROVINDY_BATCH_REFUSAL = 3 /* answer[3]: the number that the next reading would be refused by, or 0 */
+    CATROVINDY_BATCH_REFUSAL = 3 /* answer[3]: 7 where a full count kept the next reading from being taken, else 0 */
 };
 
 /* ---- The run-length table */
@@ -180,8 +265,10 @@ enum {
  *   figures: CATROVINDY_FIGURES places, written only.
  * Refused by 2; then rule by rule 3, 4; 8; 9; 10; 11.
  */
-uint64_t catrovindy_table(const uint32_t *slots, uint32_t count, const uint32_t *weights, uint32_t horizon, uint64_t *pmf, size_t pmf_length,
-                          uint64_t *survival, size_t survival_length, uint64_t *figures);
+CATROVINDY_CODE uint64_t catrovindy_table(const uint32_t slots[CATROVINDY_AT_LEAST CATROVINDY_SLOTS], uint32_t count,
+                                          const uint32_t weights[CATROVINDY_AT_LEAST CATROVINDY_ZONES], uint32_t horizon, uint64_t *pmf,
+                                          size_t pmf_length, uint64_t *survival, size_t survival_length,
+                                          uint64_t figures[CATROVINDY_AT_LEAST CATROVINDY_FIGURES]);
 
 enum {
     CATROVINDY_FIGURE_STATES = 0,       /* figures[0]: N, the number of states */
@@ -195,31 +282,43 @@ enum {
  * The bracket of a percentile of the run length: it contains the true one, which is the least n by which the exact chance of a signal is
  * at least the percent. For a bracket of a table hand over the first H places of its pmf, and its N.
  *   pmf: `pmf_length` chances.
- *   states: N.
+ *   state_count: N.
  *   percent: 1 to 99.
- *   answer: CATROVINDY_BRACKET_ANSWER places, written only.
+ *   answer: CATROVINDY_BRACKET_ANSWER places, written only. Then holds the kind and its two numbers.
  * Refused by 12; 13; 14; 15.
  */
-uint64_t catrovindy_bracket(const uint64_t *pmf, size_t pmf_length, uint32_t states, uint32_t percent, uint32_t *answer);
+CATROVINDY_CODE uint64_t catrovindy_bracket(const uint64_t *pmf, size_t pmf_length, uint32_t state_count, uint32_t percent,
+                                            uint32_t answer[CATROVINDY_AT_LEAST CATROVINDY_BRACKET_ANSWER]);
 
-/* answer[0] of a bracket, and the kind of a plot's item. */
 enum {
-    CATROVINDY_AT = 1,      /* at n: answer[1] and answer[2] are n */
-    CATROVINDY_BETWEEN = 2, /* from answer[1] to answer[2] */
-    CATROVINDY_OPEN = 3,    /* answer[1] or more; answer[2] is 0 */
-    CATROVINDY_BEYOND = 4   /* more than answer[1], the length of the list; answer[2] is 0 */
+    CATROVINDY_BRACKET_KIND = 0,  /* answer[0]: one of the four kinds */
+    CATROVINDY_BRACKET_FIRST = 1, /* answer[1]: the first of its two numbers */
+    CATROVINDY_BRACKET_SECOND = 2 /* answer[2]: the second */
 };
+
+/* The kind of a bracket, and of a plot's item. */
+enum {
+    CATROVINDY_AT = 1,      /* at n: both numbers are n */
+    CATROVINDY_BETWEEN = 2, /* from the first number to the second */
+    CATROVINDY_OPEN = 3,    /* the first number or more; a bracket's second is 0 */
+    CATROVINDY_BEYOND = 4   /* more than the first number, which is the length of the list or the horizon; a bracket's second is 0 */
+};
+
+/* ---- The plot record */
 
 /*
  * The plot record: the percentiles 5, 25, 50, 75 and 95 and the mean's bounds as doubles, each of them exact. It is made by the table's
- * own run, so that `pmf` and `survival` are then as the table leaves them.
+ * own run, so that `pmf` and `survival` are then as the table leaves them. catrovindy_fill_box_plot gives the same as a struct with names.
  *   slots, count, weights, horizon, pmf, survival: as for the table.
  *   kinds: CATROVINDY_KINDS places, written only.
  *   values: CATROVINDY_VALUES places, written only.
- * Refused as the table is.
+ * Refused as the table is: by 2; then rule by rule 3, 4; 8; 9; 10; 11.
  */
-uint64_t catrovindy_plot(const uint32_t *slots, uint32_t count, const uint32_t *weights, uint32_t horizon, uint64_t *pmf, size_t pmf_length,
-                         uint64_t *survival, size_t survival_length, uint32_t *kinds, double *values);
+CATROVINDY_CODE uint64_t catrovindy_plot(const uint32_t slots[CATROVINDY_AT_LEAST CATROVINDY_SLOTS], uint32_t count,
+                                         const uint32_t weights[CATROVINDY_AT_LEAST CATROVINDY_ZONES], uint32_t horizon, uint64_t *pmf,
+                                         size_t pmf_length, uint64_t *survival, size_t survival_length,
+                                         uint32_t kinds[CATROVINDY_AT_LEAST CATROVINDY_KINDS],
+                                         double values[CATROVINDY_AT_LEAST CATROVINDY_VALUES]);
 
 /* The items: kinds[i] is the kind of item i; values[2 * i] and values[2 * i + 1] its doubles, which differ only for CATROVINDY_BETWEEN. */
 enum {
@@ -234,6 +333,26 @@ enum {
     CATROVINDY_VALUE_IQR = 12    /* values[12]: the interquartile range where both quartiles are at a point, else 0 */
 };
 
+/* A percentile as a plotter takes it. Each double is a whole number, exactly. */
+struct catrovindy_plot_item {
+    uint32_t kind; /* CATROVINDY_AT, CATROVINDY_BETWEEN, CATROVINDY_OPEN or CATROVINDY_BEYOND */
+    double first;
+    double second; /* for CATROVINDY_BETWEEN the other end, else the same as `first` */
+};
+
+/* The plot record with names. */
+struct catrovindy_box_plot {
+    struct catrovindy_plot_item p5;
+    struct catrovindy_plot_item p25; /* the first quartile */
+    struct catrovindy_plot_item p50; /* the median */
+    struct catrovindy_plot_item p75; /* the third quartile */
+    struct catrovindy_plot_item p95;
+    double lower;     /* the mean cut at the horizon is not less than this */
+    double upper;     /* and not more than this; both are multiples of 2^-36 */
+    uint32_t has_iqr; /* 1 where there is an interquartile range, else 0 */
+    double iqr;       /* the interquartile range where both quartiles are at a point, else 0 */
+};
+
 /* ---- The two programs' reports */
 
 /*
@@ -243,7 +362,8 @@ enum {
  *   bytes: 1 place, written only. Then holds the number of bytes of the lines.
  * Refused by 17; 16; 2; then rule by rule 3, 4; 8; 9, also for a horizon over 4,096; 10.
  */
-uint64_t catrovindy_table_report(const uint8_t *text, size_t length, uint8_t *out, uint64_t *bytes);
+CATROVINDY_CODE uint64_t catrovindy_table_report(const uint8_t *text, size_t length, uint8_t out[CATROVINDY_AT_LEAST CATROVINDY_TABLE_SIZE],
+                                                 uint64_t bytes[CATROVINDY_AT_LEAST 1]);
 
 /*
  * The monitor program's lines for a text of a chart line, rule lines and point lines.
@@ -252,10 +372,166 @@ uint64_t catrovindy_table_report(const uint8_t *text, size_t length, uint8_t *ou
  *   bytes: 1 place, written only. Then holds the number of bytes of the lines.
  * Refused by 17; 16; 2; then rule by rule 3, 4; 1.
  */
-uint64_t catrovindy_monitor_report(const uint8_t *text, size_t length, uint8_t *out, uint64_t *bytes);
+CATROVINDY_CODE uint64_t catrovindy_monitor_report(const uint8_t *text, size_t length,
+                                                   uint8_t out[CATROVINDY_AT_LEAST CATROVINDY_MONITOR_SIZE],
+                                                   uint64_t bytes[CATROVINDY_AT_LEAST 1]);
 
 #ifdef __cplusplus
 }
 #endif
+
+/* ---- How the names above are called */
+
+/*
+ * The library's own functions take no null pointer. So the name of each function with a list stands for an inline function that hands on
+ * everything as it is, but for a list of length 0 the address of a place that is there. In C++ the other functions with arrays have such an
+ * inline function too, for the sizes: an array with fewer places than the function takes does not compile. In both languages a pointer goes
+ * where an array goes; its places are then the caller's care.
+ */
+#ifdef __cplusplus
+
+/* A parameter that takes an array of N places or more, or a pointer. */
+template <typename T, size_t N> class catrovindy_array {
+    T *first;
+
+public:
+    template <size_t M> catrovindy_array(T (&array)[M]) : first(array) {
+        static_assert(M >= N, "this array has fewer places than the function takes");
+    }
+    template <typename U> catrovindy_array(U *const &pointer) : first(pointer) {}
+    operator T *() const { return first; }
+};
+
+#define CATROVINDY_ARRAY(type, name, places) catrovindy_array<type, places> name
+#else
+#define CATROVINDY_ARRAY(type, name, places) type name[CATROVINDY_AT_LEAST places]
+#endif
+
+CATROVINDY_CODE static inline uint64_t catrovindy_call_batch(CATROVINDY_ARRAY(const uint32_t, slots, CATROVINDY_SLOTS), uint32_t count,
+                                                             CATROVINDY_ARRAY(uint64_t, state, 1), CATROVINDY_ARRAY(uint32_t, points, 1),
+                                                             int32_t centre, uint32_t sigma, const int32_t *readings, size_t length,
+                                                             CATROVINDY_ARRAY(uint64_t, answer, CATROVINDY_BATCH_ANSWER)) {
+    const int32_t none = 0;
+    return catrovindy_batch(slots, count, state, points, centre, sigma, length == 0 ? &none : readings, length, answer);
+}
+
+CATROVINDY_CODE static inline uint64_t catrovindy_call_table(CATROVINDY_ARRAY(const uint32_t, slots, CATROVINDY_SLOTS), uint32_t count,
+                                                             CATROVINDY_ARRAY(const uint32_t, weights, CATROVINDY_ZONES), uint32_t horizon,
+                                                             uint64_t *pmf, size_t pmf_length, uint64_t *survival, size_t survival_length,
+                                                             CATROVINDY_ARRAY(uint64_t, figures, CATROVINDY_FIGURES)) {
+    uint64_t none[2] = {0, 0};
+    return catrovindy_table(slots, count, weights, horizon, pmf_length == 0 ? &none[0] : pmf, pmf_length,
+                            survival_length == 0 ? &none[1] : survival, survival_length, figures);
+}
+
+CATROVINDY_CODE static inline uint64_t catrovindy_call_bracket(const uint64_t *pmf, size_t pmf_length, uint32_t state_count,
+                                                               uint32_t percent,
+                                                               CATROVINDY_ARRAY(uint32_t, answer, CATROVINDY_BRACKET_ANSWER)) {
+    const uint64_t none = 0;
+    return catrovindy_bracket(pmf_length == 0 ? &none : pmf, pmf_length, state_count, percent, answer);
+}
+
+CATROVINDY_CODE static inline uint64_t catrovindy_call_plot(CATROVINDY_ARRAY(const uint32_t, slots, CATROVINDY_SLOTS), uint32_t count,
+                                                            CATROVINDY_ARRAY(const uint32_t, weights, CATROVINDY_ZONES), uint32_t horizon,
+                                                            uint64_t *pmf, size_t pmf_length, uint64_t *survival, size_t survival_length,
+                                                            CATROVINDY_ARRAY(uint32_t, kinds, CATROVINDY_KINDS),
+                                                            CATROVINDY_ARRAY(double, values, CATROVINDY_VALUES)) {
+    uint64_t none[2] = {0, 0};
+    return catrovindy_plot(slots, count, weights, horizon, pmf_length == 0 ? &none[0] : pmf, pmf_length,
+                           survival_length == 0 ? &none[1] : survival, survival_length, kinds, values);
+}
+
+CATROVINDY_CODE static inline uint64_t catrovindy_call_table_report(const uint8_t *text, size_t length,
+                                                                    CATROVINDY_ARRAY(uint8_t, out, CATROVINDY_TABLE_SIZE),
+                                                                    CATROVINDY_ARRAY(uint64_t, bytes, 1)) {
+    const uint8_t none = 0;
+    return catrovindy_table_report(length == 0 ? &none : text, length, out, bytes);
+}
+
+CATROVINDY_CODE static inline uint64_t catrovindy_call_monitor_report(const uint8_t *text, size_t length,
+                                                                      CATROVINDY_ARRAY(uint8_t, out, CATROVINDY_MONITOR_SIZE),
+                                                                      CATROVINDY_ARRAY(uint64_t, bytes, 1)) {
+    const uint8_t none = 0;
+    return catrovindy_monitor_report(length == 0 ? &none : text, length, out, bytes);
+}
+
+#define catrovindy_batch catrovindy_call_batch
+#define catrovindy_table catrovindy_call_table
+#define catrovindy_bracket catrovindy_call_bracket
+#define catrovindy_plot catrovindy_call_plot
+#define catrovindy_table_report catrovindy_call_table_report
+#define catrovindy_monitor_report catrovindy_call_monitor_report
+
+#ifdef __cplusplus
+
+CATROVINDY_CODE static inline uint64_t catrovindy_call_check(CATROVINDY_ARRAY(const uint32_t, slots, CATROVINDY_SLOTS), uint32_t count) {
+    return catrovindy_check(slots, count);
+}
+
+CATROVINDY_CODE static inline uint64_t catrovindy_call_zone(int32_t reading, int32_t centre, uint32_t sigma,
+                                                            CATROVINDY_ARRAY(uint32_t, zone, 1)) {
+    return catrovindy_zone(reading, centre, sigma, zone);
+}
+
+CATROVINDY_CODE static inline uint64_t catrovindy_call_step(CATROVINDY_ARRAY(const uint32_t, slots, CATROVINDY_SLOTS), uint32_t count,
+                                                            CATROVINDY_ARRAY(uint64_t, state, 1), CATROVINDY_ARRAY(uint32_t, points, 1),
+                                                            uint32_t zone, CATROVINDY_ARRAY(uint32_t, answer, CATROVINDY_STEP_ANSWER)) {
+    return catrovindy_step(slots, count, state, points, zone, answer);
+}
+
+#define catrovindy_check catrovindy_call_check
+#define catrovindy_zone catrovindy_call_zone
+#define catrovindy_step catrovindy_call_step
+
+#endif
+
+/* ---- Helpers */
+
+/*
+ * Whether an accepted batch stopped because the count is full: 1 or 0. It took CATROVINDY_BATCH_TAKEN readings, all of them quiet, and the
+ * next one cannot be counted. To go on, start a fresh chart.
+ *   answer: CATROVINDY_BATCH_ANSWER places, as the batch wrote them.
+ */
+static inline int catrovindy_batch_full(CATROVINDY_ARRAY(const uint64_t, answer, CATROVINDY_BATCH_ANSWER)) {
+    return answer[CATROVINDY_BATCH_REFUSAL] == CATROVINDY_BAD_COUNT;
+}
+
+/* An item of the plot record, by its index from CATROVINDY_P5 to CATROVINDY_P95. */
+static inline struct catrovindy_plot_item catrovindy_plot_item_at(const uint32_t kinds[CATROVINDY_AT_LEAST CATROVINDY_KINDS],
+                                                                  const double values[CATROVINDY_AT_LEAST CATROVINDY_VALUES], int i) {
+    struct catrovindy_plot_item item;
+    item.kind = kinds[i];
+    item.first = values[2 * i];
+    item.second = values[2 * i + 1];
+    return item;
+}
+
+/*
+ * The plot record as a struct with names.
+ *   slots, count, weights, horizon, pmf, survival: as for the table.
+ *   plot: 1 place, written only.
+ * Refused as the table is: by 2; then rule by rule 3, 4; 8; 9; 10; 11.
+ */
+CATROVINDY_CODE static inline uint64_t catrovindy_fill_box_plot(CATROVINDY_ARRAY(const uint32_t, slots, CATROVINDY_SLOTS), uint32_t count,
+                                                                CATROVINDY_ARRAY(const uint32_t, weights, CATROVINDY_ZONES),
+                                                                uint32_t horizon, uint64_t *pmf, size_t pmf_length, uint64_t *survival,
+                                                                size_t survival_length,
+                                                                CATROVINDY_ARRAY(struct catrovindy_box_plot, plot, 1)) {
+    uint32_t kinds[CATROVINDY_KINDS];
+    double values[CATROVINDY_VALUES];
+    const uint64_t code = catrovindy_plot(slots, count, weights, horizon, pmf, pmf_length, survival, survival_length, kinds, values);
+    if (code == CATROVINDY_ACCEPTED) {
+        plot[0].p5 = catrovindy_plot_item_at(kinds, values, CATROVINDY_P5);
+        plot[0].p25 = catrovindy_plot_item_at(kinds, values, CATROVINDY_P25);
+        plot[0].p50 = catrovindy_plot_item_at(kinds, values, CATROVINDY_P50);
+        plot[0].p75 = catrovindy_plot_item_at(kinds, values, CATROVINDY_P75);
+        plot[0].p95 = catrovindy_plot_item_at(kinds, values, CATROVINDY_P95);
+        plot[0].lower = values[CATROVINDY_VALUE_LOWER];
+        plot[0].upper = values[CATROVINDY_VALUE_UPPER];
+        plot[0].has_iqr = kinds[CATROVINDY_KIND_IQR];
+        plot[0].iqr = values[CATROVINDY_VALUE_IQR];
+    }
+    return code;
+}
 
 #endif

@@ -1,7 +1,7 @@
 #!/usr/bin/env bash
 # Runs every command of the README as a new user would, in a fresh clone, and compares what is printed where the README shows it: a block
-# marked sh is run, and a block marked text right behind it is what it must print. Not run are the package installs and the test command, and
-# without gnuplot the pictures.
+# marked sh is run, and a block marked text right behind it is what it must print on standard output. Not run are the package installs and the
+# test command, and without gnuplot the pictures; it says so.
 set -euo pipefail
 cd "$(dirname "$0")/.."
 
@@ -30,7 +30,7 @@ for i in $(seq 1 "$count"); do
   block=$place/$i.sh
   grep -v -E '^(apt-get |bash test\.sh)' "$block" >"$place/run.sh" || continue
   if grep -q 'pictures/' "$place/run.sh" && ! command -v gnuplot >/dev/null; then
-    echo "block $i needs gnuplot, which is not here: not run"
+    echo "left out: block $i of the README draws a picture, and gnuplot is not here"
     continue
   fi
   if ! bash -euo pipefail "$place/run.sh" >"$place/got" 2>"$place/errors"; then

@@ -65,10 +65,15 @@ pub fn batch(rules: &[Rule], given: Monitor, centre: i32, sigma: u32, readings: 
         assert_eq!((state, points, answer), ([given.state], [given.points], kept), "a refusal altered something");
         return Err(refusal);
     }
-    let [taken, count, mask, next] = answer;
     let small = |x: u64| u32::try_from(x).expect("32 bits");
-    let last = Point { count: small(count), mask: small(mask) };
-    Ok((Batch { taken: taken as usize, last, refusal: Refusal::check(next).err() }, Monitor { state: state[0], points: points[0] }))
+    let (taken, count) = (answer[0] as usize, small(answer[1]));
+    let batch = match answer {
+        [_, _, 0, 0] => Batch::Quiet { taken, count },
+        [_, _, mask, 0] => Batch::Signal { taken, count, mask: small(mask) },
+        [_, 4_294_967_295, 0, 7] if taken > 0 => Batch::Full { taken },
+        other => panic!("no such answer: {other:?}"),
+    };
+    Ok((batch, Monitor { state: state[0], points: points[0] }))
 }
 
 pub fn table(

@@ -53,25 +53,20 @@ fn reading(rules: &[Rule], given: Monitor, centre: i32, sigma: u32, reading: i32
     step(rules, given, u32::from(zone(reading, centre, sigma)?))
 }
 
-/// Readings until one signals, one is refused, or none is left: how far it came, and the monitor for the next one. Refused as the first
-/// reading is.
+/// Readings until one signals, the count is full, or none is left: how far it came, and the monitor for the next one. Refused as a first
+/// reading is, whatever it may be; so too where there is none.
 pub fn batch(rules: &[Rule], given: Monitor, centre: i32, sigma: u32, readings: &[i32]) -> Result<(Batch, Monitor), Refusal> {
-    let mut found = Batch { taken: 0, last: Point { count: given.points, mask: 0 }, refusal: None };
-    let mut at = given;
-    for &r in readings {
+    let (mut at, mut count) = (given, given.points);
+    reading(rules, given, centre, sigma, centre).map(drop)?;
+    for (taken, &r) in readings.iter().enumerate() {
         match reading(rules, at, centre, sigma, r) {
-            Err(refusal) if found.taken == 0 => return Err(refusal),
             Err(refusal) => {
-                found.refusal = Some(refusal);
-                return Ok((found, at));
+                assert!(refusal.number == 7 && taken > 0, "only the count can refuse a later reading");
+                return Ok((Batch::Full { taken }, at));
             }
-            Ok((point, next)) => {
-                (found.taken, found.last, at) = (found.taken + 1, point, next);
-                if point.is_signal() {
-                    break;
-                }
-            }
+            Ok((Point { count, mask }, next)) if mask != 0 => return Ok((Batch::Signal { taken: taken + 1, count, mask }, next)),
+            Ok((point, next)) => (count, at) = (point.count, next),
         }
     }
-    Ok((found, at))
+    Ok((Batch::Quiet { taken: readings.len(), count }, at))
 }

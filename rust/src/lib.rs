@@ -7,8 +7,8 @@
 //! A planner asks for the run length: [`table()`], [`Table`], [`bracket`], [`box_plot`]. A bench runs the chart: [`zone()`], [`Monitor`].
 //! [`table_report`] and [`monitor_report`] are the two programs, text in and text out.
 //!
-//! Every function takes any input. What it does not accept it refuses: see [`Refusal`]. A refusal alters nothing that was lent. The
-//! functions keep nothing between calls, so that any number of threads may call them.
+//! Every function takes any input. What it does not accept it refuses: see [`Refusal`]. A refused call alters nothing that was lent. What a
+//! function only writes to is marked `written only`. The functions keep nothing between calls, so that any number of threads may call them.
 //!
 //! ```
 //! use catrovindy::{zone, Monitor, RuleList};
@@ -34,12 +34,16 @@ mod refusal;
 mod report;
 mod rules;
 mod table;
+mod version;
 mod zone;
 
 pub use monitor::{Batch, Monitor, Point, MAX_COUNT};
 pub use plot::{box_plot, BoxPlot, PlotItem};
 pub use refusal::Refusal;
-pub use report::{monitor_report, monitor_report_into, table_report, table_report_into, MAX_TEXT, MONITOR_SIZE, TABLE_SIZE};
+pub use report::{monitor_report, monitor_report_into, table_report, table_report_into, MAX_ROWS, MAX_TEXT, MONITOR_SIZE, TABLE_SIZE};
 pub use rules::{Rule, RuleList, MAX_RULES, MAX_WINDOW};
 pub use table::{bracket, table, Bracket, Figures, Table, MAX_HORIZON, MAX_STATES, UNITS_PER_ONE, WEIGHT_TOTAL};
-pub use zone::{zone, Weights, A1, A2, B1, B2, C1, C2, MAX_SIGMA, S, ZONES};
+pub use version::{version, VERSION, VERSION_NUMBER};
+pub use zone::{zone, Weights, A1, A2, ALL_ZONES, B1, B2, C1, C2, MAX_SIGMA, S, ZONES};
+pub use zone::{SET_A1, SET_A2, SET_ABOVE, SET_A_OR_B_ABOVE, SET_A_OR_B_BELOW, SET_B1, SET_B2, SET_BELOW, SET_C, SET_C1, SET_C2};
+pub use zone::{SET_OUTSIDE_C, SET_S};

@@ -38,7 +38,7 @@ pub struct BoxPlot {
 impl BoxPlot {
     /// The plot record of a rule list.
     ///
-    /// Refused by 2, 3, 4; 8; 9; 10, in this order.
+    /// Refused by 2; then rule by rule 3, 4; 8; 9; 10, in this order.
     pub fn new(rules: &RuleList, weights: &Weights, horizon: u32) -> Result<BoxPlot, Refusal> {
         let (mut pmf, mut survival) = table::lists(horizon);
         box_plot(rules, weights, horizon, &mut pmf, &mut survival)
@@ -46,8 +46,9 @@ impl BoxPlot {
 }
 
 /// The plot record, and the table that it is made from in the caller's lists: as [`table()`](crate::table()) leaves them.
+/// Both lists are written only.
 ///
-/// Refused as the table is.
+/// Refused as the table is: by 2; then rule by rule 3, 4; 8; 9; 10; 11, in this order, and both lists are then as they were.
 ///
 /// ```
 /// use catrovindy::{BoxPlot, PlotItem, RuleList};
@@ -60,7 +61,7 @@ impl BoxPlot {
 /// ```
 pub fn box_plot(rules: &RuleList, weights: &Weights, horizon: u32, pmf: &mut [u64], survival: &mut [u64]) -> Result<BoxPlot, Refusal> {
     let (slots, count) = rules.slots();
-    let (mut kinds, mut values) = ([0; 6], [0.0; 13]);
+    let (mut kinds, mut values) = ([0; raw::KINDS], [0.0; raw::VALUES]);
     // SAFETY: 24 slots, seven weights, two slices with their lengths, arrays of six and thirteen.
     let code = unsafe {
         raw::catrovindy_plot(
@@ -77,27 +78,26 @@ pub fn box_plot(rules: &RuleList, weights: &Weights, horizon: u32, pmf: &mut [u6
         )
     };
     Refusal::check(code)?;
-    let [k5, k25, k50, k75, k95, has_iqr] = kinds;
-    let [a5, b5, a25, b25, a50, b50, a75, b75, a95, b95, lower, upper, iqr] = values;
+    let at = |i: usize| item(kinds[i], values[2 * i], values[2 * i + 1]);
     Ok(BoxPlot {
-        p5: item(k5, a5, b5),
-        p25: item(k25, a25, b25),
-        p50: item(k50, a50, b50),
-        p75: item(k75, a75, b75),
-        p95: item(k95, a95, b95),
-        lower,
-        upper,
-        iqr: (has_iqr == 1).then_some(iqr),
+        p5: at(raw::P5),
+        p25: at(raw::P25),
+        p50: at(raw::P50),
+        p75: at(raw::P75),
+        p95: at(raw::P95),
+        lower: values[raw::VALUE_LOWER],
+        upper: values[raw::VALUE_UPPER],
+        iqr: (kinds[raw::KIND_IQR] == 1).then_some(values[raw::VALUE_IQR]),
     })
 }
 
 /// An item by its kind and its two doubles.
 fn item(kind: u32, first: f64, second: f64) -> PlotItem {
     match kind {
-        1 => PlotItem::Point(first),
-        2 => PlotItem::Span(first, second),
-        3 => PlotItem::Open(first),
-        // 4: there is no other
+        raw::AT => PlotItem::Point(first),
+        raw::BETWEEN => PlotItem::Span(first, second),
+        raw::OPEN => PlotItem::Open(first),
+        // BEYOND: there is no other
         _ => PlotItem::Beyond(first),
     }
 }

@@ -4,6 +4,9 @@ use crate::{raw, Refusal};
 /// The most bytes that a text may have.
 pub const MAX_TEXT: usize = 65_536;
 
+/// The largest horizon of a table report.
+pub const MAX_ROWS: u32 = 4096;
+
 /// Room for the table program's lines at its largest horizon, 4,096.
 pub const TABLE_SIZE: usize = 344_544;
 
@@ -12,7 +15,7 @@ pub const MONITOR_SIZE: usize = 401_456;
 
 /// The table program's lines for a text of a weights line, rule lines and a horizon line.
 ///
-/// Refused by 17; 16; 2, 3, 4; 8; 9, also for a horizon over 4,096; 10, in this order.
+/// Refused by 17; 16; 2; then rule by rule 3, 4; 8; 9, also for a horizon over 4,096; 10, in this order.
 ///
 /// ```
 /// let text = b"weights,0,536870912,0,0,536870912,0,0\nrule,2,2,2\nhorizon,4\n";
@@ -30,7 +33,7 @@ pub fn table_report(text: &[u8]) -> Result<Vec<u8>, Refusal> {
 
 /// The monitor program's lines for a text of a chart line, rule lines and point lines.
 ///
-/// Refused by 17; 16; 2, 3, 4; 1, in this order.
+/// Refused by 17; 16; 2; then rule by rule 3, 4; 1, in this order.
 ///
 /// ```
 /// let lines = catrovindy::monitor_report(b"chart,100,10\nrule,1,1,1\npoint,100\npoint,131\n");
@@ -46,13 +49,15 @@ pub fn monitor_report(text: &[u8]) -> Result<Vec<u8>, Refusal> {
     Ok(out)
 }
 
-/// As [`table_report`], but into the caller's buffer: answers how many bytes the lines have. The bytes after them are kept.
+/// As [`table_report`], but into the caller's buffer: how many bytes the lines have. `out` is written only; the bytes after the lines are
+/// kept, and all of them where the text is refused.
 pub fn table_report_into(text: &[u8], out: &mut [u8; TABLE_SIZE]) -> Result<usize, Refusal> {
     // SAFETY: the buffer has the size of a table report.
     unsafe { written(raw::catrovindy_table_report, text, out.as_mut_ptr()) }
 }
 
-/// As [`monitor_report`], but into the caller's buffer: answers how many bytes the lines have. The bytes after them are kept.
+/// As [`monitor_report`], but into the caller's buffer: how many bytes the lines have. `out` is written only; the bytes after the lines are
+/// kept, and all of them where the text is refused.
 pub fn monitor_report_into(text: &[u8], out: &mut [u8; MONITOR_SIZE]) -> Result<usize, Refusal> {
     // SAFETY: the buffer has the size of a monitor report.
     unsafe { written(raw::catrovindy_monitor_report, text, out.as_mut_ptr()) }
@@ -63,7 +68,7 @@ type Report = unsafe extern "C" fn(*const u8, usize, *mut u8, *mut u64) -> u64;
 /// How many bytes a report has written.
 ///
 /// # Safety
-/// `out` is a buffer of the report's size that may be written, all of it initialised.
+/// `out` is a buffer of the report's size, written only.
 unsafe fn written(report: Report, text: &[u8], out: *mut u8) -> Result<usize, Refusal> {
     let mut bytes = 0;
     // SAFETY: a slice with its length, the caller's buffer, one number.

@@ -1,5 +1,6 @@
 //! Rules and rule lists.
-use crate::raw::SLOTS;
+use crate::raw::{self, SLOTS};
+use crate::Refusal;
 
 /// The most rules that a list may have.
 pub const MAX_RULES: usize = 8;
@@ -14,25 +15,26 @@ pub struct Rule {
     pub k: u32,
     /// 1 to 9.
     pub m: u32,
-    /// The sum of 2^zone, 1 to 127.
+    /// The zone set: the sum of 2^zone, 1 to 127. [`SET_S`](crate::SET_S) and others are such sets.
     pub zones: u32,
 }
 
 impl Rule {
     /// At least k of the last m points in the zones, the sum of 2^zone. Bounds are looked at where the rule is used.
+    #[must_use]
     pub const fn new(k: u32, m: u32, zones: u32) -> Rule {
         Rule { k, m, zones }
     }
 }
 
 /// A list of rules. Any number of any rules may be put into it: a list that is out of bounds is refused where it is used. It keeps the
-/// first eight rules and the number of all.
+/// first eight rules and the number of all. [`RuleList::check`] says beforehand whether a list is accepted.
 ///
 /// ```
-/// use catrovindy::{Rule, RuleList};
+/// use catrovindy::{Rule, RuleList, SET_ABOVE, SET_S};
 ///
-/// let list = RuleList::new().with(Rule::new(1, 1, 1)).with(Rule::new(9, 9, 14));
-/// assert_eq!(list.len(), 2);
+/// let list = RuleList::new().with(Rule::new(1, 1, SET_S)).with(Rule::new(9, 9, SET_ABOVE));
+/// assert_eq!((list.len(), list.check()), (2, Ok(())));
 /// assert_eq!(list, RuleList::from(&[Rule::new(1, 1, 1), Rule::new(9, 9, 14)][..]));
 /// ```
 #[derive(Clone, Copy, Debug, Default, PartialEq, Eq, Hash)]
@@ -95,6 +97,22 @@ impl RuleList {
     /// The rules, at most the first eight.
     pub fn rules(&self) -> impl Iterator<Item = Rule> + '_ {
         self.slots.chunks_exact(3).take(self.count as usize).map(|slot| Rule::new(slot[0], slot[1], slot[2]))
+    }
+
+    /// Whether the list is accepted, before a chart is run or planned with it.
+    ///
+    /// Refused by 2; then rule by rule 3, 4.
+    ///
+    /// ```
+    /// use catrovindy::{Refusal, Rule, RuleList};
+    ///
+    /// let list = RuleList::duncan().with(Rule::new(1, 1, 128));
+    /// assert_eq!(list.check(), Err(Refusal { number: Refusal::BAD_ZONE_SET, place: 5 }));
+    /// ```
+    pub fn check(&self) -> Result<(), Refusal> {
+        let (slots, count) = self.slots();
+        // SAFETY: 24 slots.
+        Refusal::check(unsafe { raw::catrovindy_check(slots.as_ptr(), count) })
     }
 
     /// The slots and the count, as the exported functions take them.

@@ -27,12 +27,12 @@ pub struct Figures {
 }
 
 /// The run-length table in the caller's lists: the chance of a signal at n in `pmf[n - 1]`, of none by n in `survival[n - 1]`, in units, for
-/// n from 1 to the horizon. The places beyond it are kept.
+/// n from 1 to the horizon. Both lists are written only; the places beyond the horizon are kept.
 ///
-/// Refused by 2, 3, 4; 8; 9; 10; 11, in this order, and both lists are then as they were.
+/// Refused by 2; then rule by rule 3, 4; 8; 9; 10; 11, in this order, and both lists are then as they were.
 pub fn table(rules: &RuleList, weights: &Weights, horizon: u32, pmf: &mut [u64], survival: &mut [u64]) -> Result<Figures, Refusal> {
     let (slots, count) = rules.slots();
-    let mut figures = [0; 4];
+    let mut figures = [0; raw::FIGURES];
     // SAFETY: 24 slots, seven weights, two slices with their lengths, an array of four.
     let code = unsafe {
         raw::catrovindy_table(
@@ -48,8 +48,12 @@ pub fn table(rules: &RuleList, weights: &Weights, horizon: u32, pmf: &mut [u64],
         )
     };
     Refusal::check(code)?;
-    let [states, survival, mean_whole, mean_fraction] = figures;
-    Ok(Figures { states: states as u32, survival, mean_whole, mean_fraction })
+    Ok(Figures {
+        states: figures[raw::FIGURE_STATES] as u32,
+        survival: figures[raw::FIGURE_SURVIVAL],
+        mean_whole: figures[raw::FIGURE_MEAN_WHOLE],
+        mean_fraction: figures[raw::FIGURE_MEAN_FRACTION],
+    })
 }
 
 /// Two lists as long as the horizon. One that is out of bounds is refused before the lengths are looked at.
@@ -72,7 +76,7 @@ pub struct Table {
 impl Table {
     /// The table of a rule list.
     ///
-    /// Refused by 2, 3, 4; 8; 9; 10, in this order.
+    /// Refused by 2; then rule by rule 3, 4; 8; 9; 10, in this order.
     ///
     /// ```
     /// use catrovindy::{Bracket, Rule, RuleList, Table};
@@ -128,16 +132,16 @@ pub enum Bracket {
 /// use catrovindy::{bracket, Bracket};
 /// assert_eq!(bracket(&[(1 << 59) - 1, 1], 1, 50), Ok(Bracket::Between(1, 2)));
 /// ```
-pub fn bracket(pmf: &[u64], states: u32, percent: u32) -> Result<Bracket, Refusal> {
-    let mut answer = [0; 3];
+pub fn bracket(pmf: &[u64], state_count: u32, percent: u32) -> Result<Bracket, Refusal> {
+    let mut answer = [0; raw::BRACKET_ANSWER];
     // SAFETY: a slice with its length, an array of three.
-    Refusal::check(unsafe { raw::catrovindy_bracket(pmf.as_ptr(), pmf.len(), states, percent, answer.as_mut_ptr()) })?;
-    let [kind, first, second] = answer;
-    Ok(match kind {
-        1 => Bracket::At(first),
-        2 => Bracket::Between(first, second),
-        3 => Bracket::Open(first),
-        // 4: there is no other
+    Refusal::check(unsafe { raw::catrovindy_bracket(pmf.as_ptr(), pmf.len(), state_count, percent, answer.as_mut_ptr()) })?;
+    let (first, second) = (answer[raw::BRACKET_FIRST], answer[raw::BRACKET_SECOND]);
+    Ok(match answer[raw::BRACKET_KIND] {
+        raw::AT => Bracket::At(first),
+        raw::BETWEEN => Bracket::Between(first, second),
+        raw::OPEN => Bracket::Open(first),
+        // BEYOND: there is no other
         _ => Bracket::Beyond(first),
     })
 }

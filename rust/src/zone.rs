@@ -1,4 +1,4 @@
-//! The zone of a reading.
+//! The zone of a reading, and zone sets.
 use crate::{raw, Refusal};
 
 /// How many zones there are, numbered from 0.
@@ -24,6 +24,37 @@ pub const C2: u32 = 4;
 pub const B2: u32 = 5;
 /// Below the centre by more than two sigma, and at most three.
 pub const A2: u32 = 6;
+
+/// The largest zone set.
+pub const ALL_ZONES: u32 = 127;
+
+/// The zone set of S: beyond three sigma, on either side. Sets are for a rule's zones, and are joined by `|`. S is on both sides of the
+/// centre, so that no set of one side has it.
+pub const SET_S: u32 = 1;
+/// The zone set of A above the centre.
+pub const SET_A1: u32 = 2;
+/// The zone set of B above the centre.
+pub const SET_B1: u32 = 4;
+/// The zone set of C above the centre, with the centre itself.
+pub const SET_C1: u32 = 8;
+/// The zone set of C below the centre.
+pub const SET_C2: u32 = 16;
+/// The zone set of B below the centre.
+pub const SET_B2: u32 = 32;
+/// The zone set of A below the centre.
+pub const SET_A2: u32 = 64;
+/// Above the centre by more than one sigma, and at most three.
+pub const SET_A_OR_B_ABOVE: u32 = SET_A1 | SET_B1;
+/// Below the centre by more than one sigma, and at most three.
+pub const SET_A_OR_B_BELOW: u32 = SET_A2 | SET_B2;
+/// At the centre, or above it by at most three sigma.
+pub const SET_ABOVE: u32 = SET_A1 | SET_B1 | SET_C1;
+/// Below the centre by at most three sigma.
+pub const SET_BELOW: u32 = SET_A2 | SET_B2 | SET_C2;
+/// Within one sigma of the centre, on either side.
+pub const SET_C: u32 = SET_C1 | SET_C2;
+/// More than one sigma from the centre, on either side.
+pub const SET_OUTSIDE_C: u32 = SET_S | SET_A_OR_B_ABOVE | SET_A_OR_B_BELOW;
 
 /// The zone of a reading on a chart with this centre and sigma. A reading on a limit belongs to the inner zone.
 ///

@@ -1,8 +1,9 @@
-//! Every function once or more: answers that document 01 gives, inputs out of bounds, little stack, many threads.
+//! Every function once or more: answers that are known, inputs out of bounds, null lists, little stack, many threads.
 use catrovindy::{
-    bracket, box_plot, monitor_report, table, table_report, zone, BoxPlot, Bracket, Monitor, Point, Refusal, Rule, RuleList, Table, Weights,
-    A1, C1, MAX_TEXT,
+    box_plot, bracket, monitor_report, raw, table, table_report, zone, Batch, BoxPlot, Bracket, Monitor, PlotItem, Point, Refusal, Rule,
+    RuleList, Table, Weights, A1, B1, C1, MAX_COUNT, MAX_TEXT, MONITOR_SIZE, S, SET_A1, SET_A_OR_B_ABOVE, SET_S, TABLE_SIZE,
 };
+use std::ptr::{null, null_mut};
 
 const IN_CONTROL: Weights = [2_898_884, 22_978_326, 145_927_014, 366_516_130, 366_516_130, 145_927_014, 22_978_326];
 
@@ -12,7 +13,7 @@ fn refused<T: std::fmt::Debug>(answer: Result<T, Refusal>) -> (u32, u32) {
 }
 
 #[test]
-fn zones_of_document_01() {
+fn zones_of_readings() {
     let zones = [131, 130, 120, 111, 110, 100, 99, 90, 89, 79, 70, 69].map(|reading| zone(reading, 100, 10).expect("a zone"));
     assert_eq!(zones, [0, 1, 2, 2, 3, 3, 4, 4, 5, 6, 6, 0]);
     assert_eq!(refused(zone(i32::MIN, i32::MAX, 65_536)), (1, 0));
@@ -42,15 +43,101 @@ fn a_refused_step_leaves_the_monitor() {
 }
 
 #[test]
+fn a_signal_has_every_rule_that_holds() {
+    // two of two, and two of three: both hold at the second point, and a third rule does not
+    let rules = RuleList::new()
+        .with(Rule::new(2, 2, SET_A_OR_B_ABOVE))
+        .with(Rule::new(2, 3, SET_A_OR_B_ABOVE))
+        .with(Rule::new(1, 1, SET_S));
+    let mut monitor = Monitor::fresh();
+    assert_eq!(monitor.step(&rules, A1), Ok(Point { count: 1, mask: 0 }));
+    assert_eq!(monitor.step(&rules, B1), Ok(Point { count: 2, mask: 3 }));
+    assert_eq!(monitor, Monitor::fresh());
+    // the same as readings: the rest is left
+    assert_eq!(monitor.take(&rules, 0, 10, &[25, 15, 5]), Ok(Batch::Signal { taken: 2, count: 2, mask: 3 }));
+    // the first and the third rule at one point, and not the second
+    let rules = RuleList::new().with(Rule::new(1, 1, SET_S)).with(Rule::new(2, 2, SET_A1)).with(Rule::new(1, 9, 127));
+    assert_eq!(monitor.step(&rules, S), Ok(Point { count: 1, mask: 5 }));
+}
+
+#[test]
 fn a_batch_stops_before_a_full_count() {
     let rules = RuleList::duncan();
-    let mut monitor = Monitor { state: 0, points: u32::MAX - 2 };
-    let batch = monitor.take(&rules, 0, 1, &[0; 5]).expect("two are taken");
-    assert_eq!((batch.taken, batch.last), (2, Point { count: u32::MAX, mask: 0 }));
-    assert_eq!(batch.refusal, Some(Refusal { number: 7, place: 0 }));
+    let mut monitor = Monitor { state: 0, points: MAX_COUNT - 2 };
+    let batch = monitor.take(&rules, 0, 1, &[0; 5]);
+    assert_eq!(batch, Ok(Batch::Full { taken: 2 }));
+    assert_eq!(batch.map(|b| (b.taken(), b.last(), b.is_signal())), Ok((2, Point { count: MAX_COUNT, mask: 0 }, false)));
+    assert_eq!(monitor.points, MAX_COUNT);
+    // once it is full, a reading is refused
     assert_eq!(refused(monitor.take(&rules, 0, 1, &[0; 3])), (7, 0));
-    let none = monitor.take(&RuleList::new(), 0, 0, &[]).expect("no readings are never refused");
-    assert_eq!((none.taken, none.last.count, none.refusal), (0, u32::MAX, None));
+    assert_eq!(refused(monitor.step(&rules, C1)), (7, 0));
+    // no reading is left, so that the batch is quiet
+    monitor.points = MAX_COUNT - 2;
+    assert_eq!(monitor.take(&rules, 0, 1, &[0; 2]), Ok(Batch::Quiet { taken: 2, count: MAX_COUNT }));
+    // a signal at the last point that can be counted clears the chart, and is no full count
+    monitor.points = MAX_COUNT - 1;
+    assert_eq!(monitor.take(&rules, 0, 1, &[4, 0]), Ok(Batch::Signal { taken: 1, count: MAX_COUNT, mask: 1 }));
+    assert_eq!(monitor, Monitor::fresh());
+}
+
+#[test]
+fn a_batch_of_no_readings_is_checked_like_a_first_reading() {
+    let rules = RuleList::duncan();
+    let mut monitor = Monitor { state: 0, points: 12 };
+    assert_eq!(monitor.take(&rules, 0, 1, &[]), Ok(Batch::Quiet { taken: 0, count: 12 }));
+    assert_eq!(refused(monitor.take(&rules, 0, 0, &[])), (1, 0));
+    assert_eq!(refused(monitor.take(&rules, 0, 65_536, &[])), (1, 0));
+    assert_eq!(refused(monitor.take(&RuleList::new(), 0, 1, &[])), (2, 0));
+    assert_eq!(refused(monitor.take(&rules.with(Rule::new(0, 1, 1)), 0, 1, &[])), (3, 5));
+    assert_eq!(refused(monitor.take(&rules.with(Rule::new(1, 1, 128)), 0, 1, &[])), (4, 5));
+    assert_eq!(monitor, Monitor { state: 0, points: 12 });
+    let mut monitor = Monitor { state: 1, points: 12 };
+    assert_eq!(refused(monitor.take(&rules, 0, 1, &[])), (5, 0));
+    let mut monitor = Monitor { state: 0, points: MAX_COUNT };
+    assert_eq!(refused(monitor.take(&rules, 0, 1, &[])), (7, 0));
+    // the order: the rules, sigma, the state, the count
+    let mut monitor = Monitor { state: u64::MAX, points: MAX_COUNT };
+    assert_eq!(refused(monitor.take(&RuleList::new(), 0, 0, &[])), (2, 0));
+    assert_eq!(refused(monitor.take(&rules, 0, 0, &[])), (1, 0));
+    assert_eq!(refused(monitor.take(&rules, 0, 1, &[])), (5, 0));
+}
+
+#[test]
+fn a_rule_list_is_checked_by_itself() {
+    assert_eq!(RuleList::western_electric().check(), Ok(()));
+    assert_eq!(refused(RuleList::new().check()), (2, 0));
+    let nine: RuleList = std::iter::repeat_n(Rule::new(0, 0, 0), 9).collect();
+    assert_eq!(refused(nine.check()), (2, 0));
+    // rule by rule: the set of the first comes before the window of the second
+    assert_eq!(refused(RuleList::new().with(Rule::new(1, 1, 0)).with(Rule::new(1, 10, 1)).check()), (4, 0));
+    assert_eq!(refused(RuleList::new().with(Rule::new(1, 9, 127)).with(Rule::new(10, 9, 0)).check()), (3, 1));
+}
+
+/// The exported functions by way of `raw`: a list of length 0 may be null.
+#[test]
+fn null_lists_of_length_0() {
+    let rules = RuleList::duncan();
+    let (slots, count) = (rules.slots().0.as_ptr(), rules.len());
+    let (mut state, mut points, mut answer) = (0, 3, [9; raw::BATCH_ANSWER]);
+    // SAFETY: every array has its size, and every list its length.
+    unsafe {
+        assert_eq!(raw::catrovindy_batch(slots, count, &mut state, &mut points, 0, 1, null(), 0, answer.as_mut_ptr()), 0);
+        assert_eq!((state, points, answer), (0, 3, [0, 3, 0, 0]));
+        let (weights, mut figures) = (IN_CONTROL.as_ptr(), [0; raw::FIGURES]);
+        let code = raw::catrovindy_table(slots, count, weights, 5, null_mut(), 0, null_mut(), 0, figures.as_mut_ptr());
+        assert_eq!((raw::number(code), raw::place(code)), (11, 0));
+        let (mut kinds, mut values) = ([0; raw::KINDS], [0.0; raw::VALUES]);
+        let code = raw::catrovindy_plot(slots, count, weights, 5, null_mut(), 0, null_mut(), 0, kinds.as_mut_ptr(), values.as_mut_ptr());
+        assert_eq!((raw::number(code), raw::place(code)), (11, 0));
+        let mut place = [0; raw::BRACKET_ANSWER];
+        let code = raw::catrovindy_bracket(null(), 0, 1, 50, place.as_mut_ptr());
+        assert_eq!((raw::number(code), raw::place(code)), (12, 0));
+        let (mut out, mut bytes) = (vec![0; TABLE_SIZE.max(MONITOR_SIZE)], 0);
+        let code = raw::catrovindy_table_report(null(), 0, out.as_mut_ptr(), &mut bytes);
+        assert_eq!((raw::number(code), raw::place(code)), (16, 1));
+        let code = raw::catrovindy_monitor_report(null(), 0, out.as_mut_ptr(), &mut bytes);
+        assert_eq!((raw::number(code), raw::place(code)), (16, 1));
+    }
 }
 
 #[test]
@@ -64,6 +151,8 @@ fn lists_of_any_length() {
     assert_eq!(refused(box_plot(&rules, &[u32::MAX; 7], 2, &mut [], &mut [])), (8, 0));
     assert_eq!(refused(bracket(&[], 1, 50)), (12, 0));
     assert_eq!(refused(bracket(&[u64::MAX; 3], 1, 50)), (15, 0));
+    assert_eq!(bracket(&[1 << 59], 1, 50), Ok(Bracket::At(1)));
+    assert_eq!(bracket(&[(1 << 59) - 1, 1], 1, 50), Ok(Bracket::Between(1, 2)));
     assert_eq!(bracket(&[(1 << 59) - 1], 1, 50), Ok(Bracket::Open(1)));
     assert_eq!(bracket(&[0; 65_535], 1024, 99), Ok(Bracket::Beyond(65_535)));
 }
@@ -78,14 +167,39 @@ fn a_table_and_its_bounds() {
     assert_eq!(refused(table.bracket(100)), (14, 0));
 }
 
+/// The plot record has what the table and its brackets have.
+#[test]
+fn a_plot_is_the_table_in_doubles() {
+    let rules = RuleList::western_electric();
+    let table = Table::new(&rules, &IN_CONTROL, 100).expect("accepted");
+    let (mut pmf, mut survival) = ([7; 101], [8; 100]);
+    let plot = box_plot(&rules, &IN_CONTROL, 100, &mut pmf, &mut survival).expect("accepted");
+    assert_eq!((&pmf[..100], &survival[..], pmf[100]), (&table.pmf[..], &table.survival[..], 7));
+    for (percent, item) in [(5, plot.p5), (25, plot.p25), (50, plot.p50), (75, plot.p75), (95, plot.p95)] {
+        let drawn = match table.bracket(percent).expect("accepted") {
+            Bracket::At(n) => PlotItem::Point(n.into()),
+            Bracket::Between(low, high) => PlotItem::Span(low.into(), high.into()),
+            Bracket::Open(low) => PlotItem::Open(low.into()),
+            Bracket::Beyond(h) => PlotItem::Beyond(h.into()),
+        };
+        assert_eq!(item, drawn, "{percent} percent");
+    }
+    assert_eq!((plot.p5, plot.p95, plot.iqr), (PlotItem::Point(8.0), PlotItem::Beyond(100.0), None));
+    let mean = table.figures.mean_whole as f64 + table.figures.mean_fraction as f64 / catrovindy::UNITS_PER_ONE as f64;
+    assert!(plot.lower <= mean && mean <= plot.upper && plot.upper - plot.lower < 1e-9);
+}
+
 #[test]
 fn refusals_in_words() {
-    let refusal = Monitor::fresh().step(&RuleList::new().with(Rule::new(1, 1, 128)), C1).expect_err("a refusal");
-    assert_eq!(refusal.to_string(), "refused by 4: a rule's zone set is 0 or over 127 (the rule with index 0)");
+    let refusal = Monitor::fresh().step(&RuleList::duncan().with(Rule::new(1, 1, 128)), C1).expect_err("a refusal");
+    let words = "A rule's zone set is 0 or over 127: it has no zone, or one that does not exist.";
+    assert_eq!((refusal.number, refusal.place, refusal.meaning()), (Refusal::BAD_ZONE_SET, 5, words));
+    assert_eq!(refusal.to_string(), format!("refused by 4, place 5: {words}"));
     let boxed: Box<dyn std::error::Error> = Box::new(refusal);
     assert!(boxed.source().is_none());
     assert_eq!(refused(table_report(&vec![b'\n'; MAX_TEXT + 1])), (17, 0));
-    assert_eq!(table_report(b"").expect_err("a refusal").to_string(), "refused by 16: a line is not the one expected, or cannot be read (line 1)");
+    let words = table_report(b"").expect_err("a refusal").to_string();
+    assert_eq!(words, "refused by 16, place 1: A line of the text is missing, is not the one expected, or cannot be read.");
 }
 
 /// The header promises that 256 KiB of stack are enough, and that calls may run at the same time.

@@ -57,7 +57,7 @@ fn same(met: &mut Met, rules: &[Rule], weights: &[u32; ZONES], horizon: u32, len
     assert_eq!(ours, theirs, "figures of {rules:?} {weights:?} {horizon}");
     assert_eq!(p, p2, "chances of {rules:?} {weights:?} {horizon}");
     assert_eq!(s, s2, "left of {rules:?} {weights:?} {horizon}");
-    if met.tables.cases.is_multiple_of(8) {
+    if met.tables.cases % 8 == 0 {
         let (mut p, mut s) = lists();
         let wrapped = catrovindy::table(&lent::list(rules), weights, horizon, &mut p, &mut s);
         assert!((wrapped, p, s) == (ours, p2, s2), "the Rust layer: {rules:?} {weights:?} {horizon}");

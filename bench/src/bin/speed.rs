@@ -57,8 +57,8 @@ fn signals(readings: &[i32]) -> u32 {
     let (mut left, mut signals) = (readings, 0);
     while !left.is_empty() {
         let batch = monitor.take(&rules, CENTRE, SIGMA, left).expect("accepted");
-        signals += u32::from(batch.last.is_signal());
-        left = &left[batch.taken..];
+        signals += u32::from(batch.is_signal());
+        left = &left[batch.taken()..];
     }
     signals
 }

@@ -4,7 +4,7 @@
 use bench::inputs::Source;
 use bench::tally::Tally;
 use bench::{lent, monitor, ring, Refusal, Rule};
-use catrovindy::{zone, Batch, Monitor, Point, RuleList};
+use catrovindy::{zone, Batch, Monitor, RuleList};
 
 /// What was met besides refusals.
 #[derive(Default)]
@@ -64,27 +64,22 @@ fn walk(met: &mut Met, source: &mut Source) {
 
 /// A batch as single calls of the proved library's zone and step.
 fn by_steps(list: &RuleList, given: Monitor, centre: i32, sigma: u32, readings: &[i32]) -> Result<(Batch, Monitor), Refusal> {
-    let mut found = Batch { taken: 0, last: Point { count: given.points, mask: 0 }, refusal: None };
-    let mut at = given;
-    for &reading in readings {
-        // a fresh monitor is refused by the rules only, and they come before sigma
-        let rules = Monitor::fresh().step(list, 0).map(|_| ());
-        let taken = rules.and_then(|()| zone(reading, centre, sigma)).and_then(|z| at.step(list, z));
-        match taken {
-            Err(refusal) if found.taken == 0 => return Err(refusal),
+    let (mut at, mut count) = (given, given.points);
+    // a batch of no readings is refused as one reading is; the rules come before sigma
+    list.check()?;
+    let mut tried = given;
+    tried.step(list, zone(centre, centre, sigma)?).map(drop)?;
+    for (taken, &reading) in readings.iter().enumerate() {
+        match at.step(list, zone(reading, centre, sigma)?) {
             Err(refusal) => {
-                found.refusal = Some(refusal);
-                break;
+                assert_eq!((refusal.number, refusal.place), (7, 0), "only the count can refuse a later reading");
+                return Ok((Batch::Full { taken }, at));
             }
-            Ok(point) => {
-                (found.taken, found.last) = (found.taken + 1, point);
-                if point.is_signal() {
-                    break;
-                }
-            }
+            Ok(point) if point.is_signal() => return Ok((Batch::Signal { taken: taken + 1, count: point.count, mask: point.mask }, at)),
+            Ok(point) => count = point.count,
         }
     }
-    Ok((found, at))
+    Ok((Batch::Quiet { taken: readings.len(), count }, at))
 }
 
 /// One batch by the exported function, by the Rust layer, by single steps and by the second implementation.
@@ -100,14 +95,11 @@ fn same_batch(met: &mut Met, rules: &[Rule], given: Monitor, (centre, sigma): (i
     assert!(wrapped.is_ok() || at == given, "a refusal altered the monitor: {}", call());
     met.batches.add(&ours);
     let (batch, next) = ours.ok()?;
-    met.readings += batch.taken as u64;
-    match batch.refusal {
-        Some(refusal) => {
-            assert_eq!((refusal.number, refusal.place), (7, 0), "{}", call());
-            met.full += 1;
-        }
-        None if batch.last.is_signal() => met.signalled += 1,
-        None => met.ended += 1,
+    met.readings += batch.taken() as u64;
+    match batch {
+        Batch::Full { .. } => met.full += 1,
+        Batch::Signal { .. } => met.signalled += 1,
+        Batch::Quiet { .. } => met.ended += 1,
     }
     Some((batch, next))
 }
@@ -126,7 +118,7 @@ fn series(met: &mut Met, source: &mut Source) {
         if left.is_empty() {
             return;
         }
-        (at, left) = (next, &left[batch.taken..]);
+        (at, left) = (next, &left[batch.taken()..]);
     }
 }
 

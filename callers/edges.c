@@ -1,0 +1,152 @@
+/*
+ * The edges of the calls from C and C++: lists of length 0 that are null, a batch of no readings, a full count, a plot record that is
+ * refused. Every exported function with a list is reached by way of __wrap_..., see build.sh, which looks whether a null pointer gets there.
+ * Prints what is wrong, and nothing where nothing is.
+ */
+#include "catrovindy.h"
+
+#include <stdio.h>
+#include <string.h>
+
+static int seen, nulls, failed;
+
+static void see(const void *list) {
+    seen++;
+    nulls += list == NULL;
+}
+
+static void require(int holds, const char *what) {
+    if (!holds) {
+        printf("not so: %s\n", what);
+        failed = 1;
+    }
+}
+
+static int refused(uint64_t code, uint32_t number, uint32_t place) {
+    return catrovindy_number(code) == number && catrovindy_place(code) == place;
+}
+
+#ifdef __cplusplus
+extern "C" {
+#endif
+
+uint64_t __real_catrovindy_batch(const uint32_t *, uint32_t, uint64_t *, uint32_t *, int32_t, uint32_t, const int32_t *, size_t, uint64_t *);
+uint64_t __wrap_catrovindy_batch(const uint32_t *slots, uint32_t count, uint64_t *state, uint32_t *points, int32_t centre, uint32_t sigma,
+                                 const int32_t *readings, size_t length, uint64_t *answer) {
+    see(readings);
+    return __real_catrovindy_batch(slots, count, state, points, centre, sigma, readings, length, answer);
+}
+
+uint64_t __real_catrovindy_table(const uint32_t *, uint32_t, const uint32_t *, uint32_t, uint64_t *, size_t, uint64_t *, size_t, uint64_t *);
+uint64_t __wrap_catrovindy_table(const uint32_t *slots, uint32_t count, const uint32_t *weights, uint32_t horizon, uint64_t *pmf,
+                                 size_t pmf_length, uint64_t *survival, size_t survival_length, uint64_t *figures) {
+    see(pmf);
+    see(survival);
+    return __real_catrovindy_table(slots, count, weights, horizon, pmf, pmf_length, survival, survival_length, figures);
+}
+
+uint64_t __real_catrovindy_bracket(const uint64_t *, size_t, uint32_t, uint32_t, uint32_t *);
+uint64_t __wrap_catrovindy_bracket(const uint64_t *pmf, size_t pmf_length, uint32_t state_count, uint32_t percent, uint32_t *answer) {
+    see(pmf);
+    return __real_catrovindy_bracket(pmf, pmf_length, state_count, percent, answer);
+}
+
+uint64_t __real_catrovindy_plot(const uint32_t *, uint32_t, const uint32_t *, uint32_t, uint64_t *, size_t, uint64_t *, size_t, uint32_t *,
+                                double *);
+uint64_t __wrap_catrovindy_plot(const uint32_t *slots, uint32_t count, const uint32_t *weights, uint32_t horizon, uint64_t *pmf,
+                                size_t pmf_length, uint64_t *survival, size_t survival_length, uint32_t *kinds, double *values) {
+    see(pmf);
+    see(survival);
+    return __real_catrovindy_plot(slots, count, weights, horizon, pmf, pmf_length, survival, survival_length, kinds, values);
+}
+
+uint64_t __real_catrovindy_table_report(const uint8_t *, size_t, uint8_t *, uint64_t *);
+uint64_t __wrap_catrovindy_table_report(const uint8_t *text, size_t length, uint8_t *out, uint64_t *bytes) {
+    see(text);
+    return __real_catrovindy_table_report(text, length, out, bytes);
+}
+
+uint64_t __real_catrovindy_monitor_report(const uint8_t *, size_t, uint8_t *, uint64_t *);
+uint64_t __wrap_catrovindy_monitor_report(const uint8_t *text, size_t length, uint8_t *out, uint64_t *bytes) {
+    see(text);
+    return __real_catrovindy_monitor_report(text, length, out, bytes);
+}
+
+#ifdef __cplusplus
+}
+#endif
+
+static const uint32_t rules[CATROVINDY_SLOTS] = CATROVINDY_DUNCAN;
+static const uint32_t rule_count = CATROVINDY_DUNCAN_COUNT;
+static const uint32_t weights[CATROVINDY_ZONES] = {CATROVINDY_WEIGHT_TOTAL, 0, 0, 0, 0, 0, 0};
+static const int32_t quiet[5] = {0, 0, 0, 0, 0};
+static uint8_t table_lines[CATROVINDY_TABLE_SIZE], monitor_lines[CATROVINDY_MONITOR_SIZE];
+
+/* Every list of every function once as null, with the length 0. */
+static void null_lists(void) {
+    uint64_t state = 0, bytes = 77, list[3], answer[CATROVINDY_BATCH_ANSWER], figures[CATROVINDY_FIGURES];
+    uint32_t points = 3, place[CATROVINDY_BRACKET_ANSWER], kinds[CATROVINDY_KINDS];
+    double values[CATROVINDY_VALUES];
+    require(catrovindy_batch(rules, rule_count, &state, &points, 0, 1, NULL, 0, answer) == CATROVINDY_ACCEPTED, "no readings are accepted");
+    require(answer[CATROVINDY_BATCH_TAKEN] == 0 && answer[CATROVINDY_BATCH_COUNT] == 3 && answer[CATROVINDY_BATCH_MASK] == 0 &&
+                !catrovindy_batch_full(answer) && state == 0 && points == 3,
+            "no readings leave the monitor");
+    require(refused(catrovindy_table(rules, rule_count, weights, 3, NULL, 0, NULL, 0, figures), CATROVINDY_SHORT_LIST, 0), "11 for no lists");
+    require(refused(catrovindy_table(rules, rule_count, weights, 3, list, 3, NULL, 0, figures), CATROVINDY_SHORT_LIST, 0), "11 for one list");
+    require(refused(catrovindy_bracket(NULL, 0, 1, 50, place), CATROVINDY_BAD_LIST, 0), "12 for no chances");
+    require(refused(catrovindy_plot(rules, rule_count, weights, 3, NULL, 0, NULL, 0, kinds, values), CATROVINDY_SHORT_LIST, 0),
+            "11 for a plot with no lists");
+    require(refused(catrovindy_table_report(NULL, 0, table_lines, &bytes), CATROVINDY_BAD_LINE, 1), "16 for no table text");
+    require(refused(catrovindy_monitor_report(NULL, 0, monitor_lines, &bytes), CATROVINDY_BAD_LINE, 1), "16 for no monitor text");
+    require(bytes == 77, "a refused report leaves the number of bytes");
+    require(seen == 10 && nulls == 0, "no null pointer gets to an exported function");
+}
+
+/* A batch of no readings is checked like a first reading. */
+static void no_readings(void) {
+    uint64_t state = 0, answer[CATROVINDY_BATCH_ANSWER] = {9, 9, 9, 9};
+    uint32_t points = 3;
+    require(refused(catrovindy_batch(rules, 0, &state, &points, 0, 0, NULL, 0, answer), CATROVINDY_BAD_RULE_COUNT, 0), "2 comes first");
+    require(refused(catrovindy_batch(rules, rule_count, &state, &points, 0, 0, NULL, 0, answer), CATROVINDY_BAD_SIGMA, 0), "1 for sigma 0");
+    state = 1;
+    require(refused(catrovindy_batch(rules, rule_count, &state, &points, 0, 1, NULL, 0, answer), CATROVINDY_BAD_STATE, 0), "5 for a state");
+    state = 0;
+    points = CATROVINDY_MAX_COUNT;
+    require(refused(catrovindy_batch(rules, rule_count, &state, &points, 0, 1, NULL, 0, answer), CATROVINDY_BAD_COUNT, 0), "7 for a count");
+    require(answer[0] == 9 && answer[1] == 9 && answer[2] == 9 && answer[3] == 9, "a refused batch leaves the answer");
+}
+
+/* Two readings are counted, and for the third there is no number. */
+static void full_count(void) {
+    uint64_t state = 0, answer[CATROVINDY_BATCH_ANSWER];
+    uint32_t points = CATROVINDY_MAX_COUNT - 2;
+    require(catrovindy_batch(rules, rule_count, &state, &points, 0, 1, quiet, 5, answer) == CATROVINDY_ACCEPTED, "what was taken is accepted");
+    require(answer[CATROVINDY_BATCH_TAKEN] == 2 && catrovindy_batch_full(answer), "the count is full after two readings");
+    require(points == CATROVINDY_MAX_COUNT, "the monitor has the full count");
+    require(refused(catrovindy_batch(rules, rule_count, &state, &points, 0, 1, quiet, 3, answer), CATROVINDY_BAD_COUNT, 0), "7 from then on");
+}
+
+/* A refused plot record leaves the struct; an accepted one fills it. */
+static void plot_record(void) {
+    struct catrovindy_box_plot plot, before;
+    uint64_t pmf[4], survival[4];
+    memset(&plot, 0x5A, sizeof plot);
+    memcpy(&before, &plot, sizeof plot);
+    require(refused(catrovindy_fill_box_plot(rules, rule_count, weights, 5, pmf, 4, survival, 4, &plot), CATROVINDY_SHORT_LIST, 0),
+            "11 for short lists");
+    require(memcmp(&plot, &before, sizeof plot) == 0, "a refused plot record leaves the struct");
+    /* every point lies beyond three sigma, so that the run length is 1 */
+    require(catrovindy_fill_box_plot(rules, rule_count, weights, 4, pmf, 4, survival, 4, &plot) == CATROVINDY_ACCEPTED, "it is accepted");
+    require(plot.p5.kind == CATROVINDY_AT && plot.p5.first == 1 && plot.p5.second == 1, "the percentile 5 is at 1");
+    require(plot.p95.kind == CATROVINDY_AT && plot.p95.first == 1 && plot.p95.second == 1, "the percentile 95 is at 1");
+    require(plot.lower <= 1 && plot.upper >= 1 && plot.has_iqr == 1 && plot.iqr == 0, "the mean is 1, and the range 0");
+}
+
+int main(void) {
+    require(catrovindy_version() == CATROVINDY_VERSION_NUMBER, "the library belongs to the header");
+    null_lists();
+    no_readings();
+    full_count();
+    plot_record();
+    return failed;
+}

@@ -1,0 +1,338 @@
+#!/usr/bin/env bash
+# Tries the edges of the two built programs: inputs and outputs that are closed, cannot be read, are full, are cut short or come in pieces;
+# texts of 65,536 bytes, of one more and of 100 MB; line ends and byte order marks. Then the scripts that read an output, look for commands
+# and look for the library, good cases and bad ones. Each check compares standard output, standard error and the exit status, all three exactly,
+# and prints a line with what it tried. The first difference ends the script with status 1.
+# shellcheck disable=SC2094 # one pipe is opened for reading and for writing
+set -euo pipefail
+cd "$(dirname "${BASH_SOURCE[0]}")/.."
+export LC_ALL=C
+
+for name in runs_table runs_monitor; do
+  if [ ! -x "target/bin/$name" ]; then
+    echo "target/bin/$name is missing: build it with 'rt check' at the root of the repository" >&2
+    exit 1
+  fi
+done
+work=$(mktemp -d)
+trap 'rm -rf "$work"' EXIT
+checks=0
+
+# check WHAT STATUS OUT ERR: compares what is in the files out and err and in the variable status with what is wanted. OUT and ERR are lines
+# without their last LF, nothing where nothing may be printed, or @FILE for a file's contents.
+check() {
+  local name wanted
+  for name in out err; do
+    if [ $name = out ]; then wanted=$3; else wanted=$4; fi
+    case $wanted in
+      @*) cp "${wanted#@}" "$work/wanted" ;;
+      '') : >"$work/wanted" ;;
+      *) printf '%s\n' "$wanted" >"$work/wanted" ;;
+    esac
+    if ! cmp -s "$work/$name" "$work/wanted"; then
+      echo "FAILED $1: another std$name than wanted (< got, > wanted)"
+      diff "$work/$name" "$work/wanted" | head -n 6 || true
+      exit 1
+    fi
+  done
+  if [ "$status" != "$2" ]; then
+    echo "FAILED $1: exit status $status, not $2"
+    exit 1
+  fi
+  echo "same   $1"
+  checks=$((checks + 1))
+}
+
+# Runs a command with what is lent as standard input.
+run() {
+  status=0
+  "$@" >"$work/out" 2>"$work/err" || status=$?
+}
+
+# Runs a command whose output goes where descriptor 4 goes.
+run_to_4() {
+  status=0
+  : >"$work/out"
+  "$@" >&4 2>"$work/err" || status=$?
+}
+
+# One byte, a pause, one byte, a pause.
+drip() {
+  local text i
+  text=$(cat "$1" && echo .)
+  text=${text%.}
+  for ((i = 0; i < ${#text}; i++)); do
+    printf '%s' "${text:i:1}"
+    sleep 0.002
+  done
+}
+
+# times N LINE ...: the lines, N times over.
+times() {
+  local i n=$1
+  shift
+  for ((i = 0; i < n; i++)); do printf '%s\n' "$@"; done
+}
+
+# bytes FILE LENGTH: fails unless the file has so many bytes.
+bytes() {
+  if [ "$(wc -c <"$1")" != "$2" ]; then
+    echo "FAILED: the text $1 has $(wc -c <"$1") bytes, not $2"
+    exit 1
+  fi
+}
+
+mkfifo "$work/fifo"
+long=$work/long-output # an output of over 65,536 bytes
+cat >"$work/long.runs_table" <<'END'
+weights,2898884,22978326,145927014,366516130,366516130,145927014,22978326
+rule,1,1,1
+horizon,4096
+END
+{ printf 'chart,0,1\nrule,1,1,1\n' && times 8189 point,0; } >"$work/long.runs_monitor"
+for name in runs_table runs_monitor; do
+  if ! "target/bin/$name" <"$work/long.$name" >"$long.$name"; then
+    echo "FAILED $name: it did not end well on a long output"
+    exit 1
+  fi
+done
+
+for name in runs_table runs_monitor; do
+  program=target/bin/$name
+  if [ $name = runs_table ]; then text=examples/western-electric-short; else text=examples/monitor-shift; fi
+
+  # What is read.
+  run "$program" <&-
+  check "$name: closed input" 0 '' 'standard input: Bad file descriptor'
+  run "$program" <"$work"
+  check "$name: a directory as input" 0 '' 'standard input: Is a directory'
+  exec 3<>"$work/fifo"
+  dd iflag=nonblock count=0 status=none <&3
+  run "$program" <&3
+  exec 3<&-
+  check "$name: a pipe that is empty and does not wait" 0 '' 'standard input: Resource temporarily unavailable'
+  run "$program" </dev/null
+  check "$name: no text at all" 0 'refused,16,1' ''
+  run "$program" < <(drip "crates/$name/stdin")
+  check "$name: a text that comes one byte at a time" 0 "@crates/$name/stdout" ''
+  run "$program" < <(head -c 20 "$text.txt" && sleep 0.2 && tail -c +21 "$text.txt")
+  check "$name: a text that comes in two pieces" 0 "@$text.out" ''
+  run "$program" < <(sed 's/$/\r/' "$text.txt")
+  check "$name: lines that end in CR LF" 0 'refused,16,1' ''
+  run "$program" < <(printf '\357\273\277' && cat "$text.txt")
+  check "$name: a byte order mark first" 0 'refused,16,1' ''
+  run "$program" < <(head -c -1 "$text.txt")
+  check "$name: no LF at the end" 0 "refused,16,$(wc -l <"$text.txt")" ''
+
+  # What is written.
+  exec 3<>"$work/fifo" 4>"$work/fifo" 3>&-
+  run_to_4 env --default-signal=PIPE "$program" <"$text.txt"
+  check "$name: a closed pipe as output, SIGPIPE as usual" 141 '' ''
+  run_to_4 env --ignore-signal=PIPE "$program" <"$text.txt"
+  check "$name: a closed pipe as output, SIGPIPE ignored" 0 '' 'standard output: Broken pipe'
+  run_to_4 env --ignore-signal=PIPE "$program" </dev/null
+  check "$name: a refusal into a closed pipe, SIGPIPE ignored" 0 '' 'standard output: Broken pipe'
+  exec 4>/dev/full
+  run_to_4 "$program" <"$text.txt"
+  check "$name: a full device as output" 0 '' 'standard output: No space left on device'
+  run_to_4 "$program" </dev/null
+  check "$name: a refusal to a full device" 0 '' 'standard output: No space left on device'
+  exec 4>&-
+  status=0
+  : >"$work/out"
+  "$program" <"$text.txt" 2>"$work/err" >&- || status=$?
+  check "$name: closed output" 0 '' 'standard output: Bad file descriptor'
+  exec 3<>"$work/fifo" 4>"$work/fifo" 5<"$work/fifo" 3>&-
+  dd oflag=nonblock count=0 status=none >&4 </dev/null
+  run_to_4 "$program" <"$work/long.$name"
+  exec 4>&-
+  cat <&5 >"$work/out"
+  exec 5<&-
+  head -c "$(wc -c <"$work/out")" "$long.$name" >"$work/cut"
+  check "$name: a pipe as output that is full and does not wait" 0 "@$work/cut" 'standard output: Resource temporarily unavailable'
+  if cmp -s "$work/cut" "$long.$name"; then
+    echo "FAILED $name: the pipe took all that there was"
+    exit 1
+  fi
+  status=0
+  { "$program" <"$work/long.$name" 2>"$work/err" || status=$?; echo "$status" >"$work/status"; } | { sleep 0.2 && cat >"$work/out"; }
+  status=$(cat "$work/status")
+  check "$name: a reader that waits, with $(wc -c <"$long.$name") bytes to come" 0 "@$long.$name" ''
+
+  run bash -c 'ulimit -S -s 1024 && exec "$0"' "$program" <"$work/long.$name"
+  check "$name: the same with a stack of 1 MiB" 0 "@$long.$name" ''
+
+  # Too much to read: the program stops at 65,537 bytes.
+  run timeout 300 "$program" < <(yes point,50000 2>/dev/null | head -c 100000000 2>/dev/null)
+  check "$name: 100 MB of text" 0 'refused,17,0' ''
+  run timeout 300 "$program" < <(yes point,50000 2>/dev/null)
+  check "$name: a text without end" 0 'refused,17,0' ''
+done
+
+# The longest texts. For the monitor: Western Electric and readings of five digits, the last two of six. A reading of 50,000 lies on the
+# centre, in C1, so each eighth signals by rule 6, eight in a row above the centre; 150,000 lies in S and signals by rule 0.
+western_electric='rule,1,1,1
+rule,2,3,64
+rule,2,3,2
+rule,4,5,96
+rule,4,5,6
+rule,8,8,112
+rule,8,8,14'
+{
+  printf 'chart,50000,400\n%s\n' "$western_electric"
+  times 5451 point,50000
+  printf 'point,150000\npoint,150000\n'
+} >"$work/monitor"
+bytes "$work/monitor" 65536
+# 5,451 = 681 times 8 and 3 more; then 150,000 at the fourth and at the first.
+times 681 quiet,1 quiet,2 quiet,3 quiet,4 quiet,5 quiet,6 quiet,7 signal,8,64 >"$work/monitor.out"
+times 1 quiet,1 quiet,2 quiet,3 signal,4,1 signal,1,1 total,5453,683 >>"$work/monitor.out"
+run target/bin/runs_monitor <"$work/monitor"
+check "runs_monitor: a text of 65,536 bytes, 5,453 points" 0 "@$work/monitor.out" ''
+if [ "$(wc -l <"$work/out")" != 5454 ] || [ "$(tail -n 1 "$work/out")" != total,5453,683 ]; then
+  echo "FAILED: another number of lines than 5,454, or another last line than total,5453,683"
+  exit 1
+fi
+sed '$s/150000/1500000/' "$work/monitor" >"$work/monitor-17"
+bytes "$work/monitor-17" 65537
+run target/bin/runs_monitor <"$work/monitor-17"
+check "runs_monitor: a text of 65,537 bytes" 0 'refused,17,0' ''
+
+# The most points that a text can have: 8,189, with readings of one digit and one short rule.
+bytes "$work/long.runs_monitor" $((10 + 11 + 8 * 8189))
+if [ "$(tail -n 1 "$long.runs_monitor")" != total,8189,0 ]; then
+  echo "FAILED: 8,189 points end in $(tail -n 1 "$long.runs_monitor"), not in total,8189,0"
+  exit 1
+fi
+sed 's/point,0/point,9/' "$work/long.runs_monitor" >"$work/nines"
+run target/bin/runs_monitor <"$work/nines"
+{ times 8189 signal,1,1 && echo total,8189,8189; } >"$work/nines.out"
+check "runs_monitor: 8,189 points, each with a signal" 0 "@$work/nines.out" ''
+
+# For the table: a text of this length can only have too many rules, or a line that is not one.
+{
+  echo weights,0,536870912,0,0,536870912,0,0
+  times 5948 rule,2,2,2
+  times 5 rule,2,2,64
+  echo horizon,4
+} >"$work/table"
+bytes "$work/table" 65536
+run target/bin/runs_table <"$work/table"
+check "runs_table: a text of 65,536 bytes with 5,953 rules" 0 'refused,2,0' ''
+sed '$s/4/48/' "$work/table" >"$work/table-17"
+bytes "$work/table-17" 65537
+run target/bin/runs_table <"$work/table-17"
+check "runs_table: a text of 65,537 bytes" 0 'refused,17,0' ''
+for name in runs_table runs_monitor; do
+  run "target/bin/$name" < <(head -c 65536 /dev/zero)
+  check "$name: 65,536 bytes of zeros" 0 'refused,16,1' ''
+  run "target/bin/$name" < <(head -c 65537 /dev/zero)
+  check "$name: 65,537 bytes of zeros" 0 'refused,17,0' ''
+done
+
+# scripts/bounds.sh
+table=examples/western-electric-in-control.out
+run bash scripts/bounds.sh "$table" 1000
+check "bounds: period 1,000" 0 'at least 0.999987 and less than 0.999988' ''
+run bash scripts/bounds.sh "$table" 1
+check "bounds: period 1" 0 'at least 0.002699 and less than 0.002700' ''
+run bash scripts/bounds.sh "$table" 1001
+check "bounds: a period beyond the table" 1 '' "bounds.sh: $table: the table ends at period 1000, so it has no row 1001"
+for n in 0 -1 1.5 many 08 ''; do
+  run bash scripts/bounds.sh "$table" "$n"
+  check "bounds: the period '$n'" 1 '' "bounds.sh: n must be a whole number from 1 on, and is '$n'"
+done
+run bash scripts/bounds.sh examples/refused/10-states.out 1
+check "bounds: a refusal" 1 '' "bounds.sh: examples/refused/10-states.out: runs_table refused the text (refused,10,0), so there is no table"
+run bash scripts/bounds.sh "$work/none" 1
+check "bounds: no file" 1 '' "bounds.sh: $work/none: no such file, or it cannot be read"
+run bash scripts/bounds.sh "$work" 1
+check "bounds: a directory" 1 '' "bounds.sh: $work: no such file, or it cannot be read"
+run bash scripts/bounds.sh "$table"
+check "bounds: no period" 1 '' 'bounds.sh: usage: bounds.sh FILE n'
+part=$work/part
+: >"$part"
+run bash scripts/bounds.sh "$part" 1
+check "bounds: an empty file" 1 '' "bounds.sh: $part: no whole output of runs_table: the file is empty"
+head -n -1 "$table" >"$part"
+run bash scripts/bounds.sh "$part" 1
+check "bounds: an output without its last line" 1 '' "bounds.sh: $part: no whole output of runs_table: it ends at line 1007"
+head -c -1 "$table" >"$part"
+run bash scripts/bounds.sh "$part" 1
+check "bounds: an output without its last LF" 1 '' "bounds.sh: $part: no whole output of runs_table: its last line has no end"
+head -n 500 "$table" >"$part"
+run bash scripts/bounds.sh "$part" 400
+check "bounds: half of an output" 1 '' "bounds.sh: $part: no whole output of runs_table: it ends at line 500"
+sed 7d "$table" >"$part"
+run bash scripts/bounds.sh "$part" 400
+check "bounds: an output without its row 5" 1 '' "bounds.sh: $part: no whole output of runs_table: line 7 is not the one expected"
+run bash scripts/bounds.sh examples/monitor-shift.out 1
+check "bounds: a monitor's output" 1 '' "bounds.sh: examples/monitor-shift.out: no whole output of runs_table: line 1 is not the one expected"
+printf 'standings,1\nn,chance,by,left\n1,1152921504606846976,1152921504606846976,0\narl,1,0,0\n' >"$part"
+printf 'q,%s,at,1\n' 5 25 50 75 95 >>"$part"
+run bash scripts/bounds.sh "$part" 1
+check "bounds: a chance of 1" 0 'at least 1.000000 and at most 1' ''
+
+# scripts/needs.sh, in a folder of its own, with a PATH in which most commands are missing, and never as root.
+room=$work/room
+mkdir -p "$room/bin" "$room/here"
+chmod 755 "$work" "$room" "$room/bin" "$room/here"
+cp scripts/needs.sh "$room/needs.sh"
+for command in bash id grep head; do ln -s "$(command -v "$command")" "$room/bin/$command"; done
+lower=()
+if [ "$(id -u)" = 0 ]; then lower=(setpriv --reuid=65534 --regid=65534 --clear-groups); fi
+look() { run "${lower[@]}" env PATH="$room/bin" bash "$room/needs.sh" "$@" </dev/null; }
+ask='Only root can install what is missing. Run this as root, then start again:
+  apt-get update && apt-get install -y'
+rust='cargo rustc'
+if grep -qs '^VERSION_ID="12"' /etc/os-release; then rust='cargo-web rustc-web'; fi
+look bash id
+check "needs: all there" 0 '' ''
+look bash rt bc
+check "needs: rt is missing" 1 '' 'rt is missing: install the Rattle kit and put its bin folder in the PATH.'
+look bash bc gcc cc g++ cargo
+check "needs: commands are missing, not root" 1 '' "missing: bc gcc cc g++ cargo
+$ask bc gcc libc6-dev g++ $rust"
+look bash nonesuch
+check "needs: a command of no known package" 1 '' 'nonesuch is missing, and no Debian package for it is known here.'
+look bash --optional gnuplot id
+check "needs: an optional command is missing" 0 '' \
+  'gnuplot is not here. It is optional: what needs it is left out. Debian: apt-get update && apt-get install -y gnuplot-nox'
+printf '#!/bin/sh\necho "cargo 1.65.0"\n' >"$room/bin/cargo"
+chmod 755 "$room/bin/cargo"
+look bash cargo
+check "needs: an old cargo" 1 '' "cargo is here, but older than 1.85 or of no use: cargo 1.65.0
+missing: cargo
+$ask $rust"
+printf '#!/bin/sh\necho "cargo 1.85.0 (d73d2caf9 2024-12-31)"\n' >"$room/bin/cargo"
+look bash cargo
+check "needs: a new cargo" 0 '' ''
+
+# scripts/library.sh --check, in a small repository with a command rt that only makes a file, and called from another folder.
+toy=$work/toy
+mkdir -p "$toy/scripts" "$toy/crates/capi" "$toy/bin"
+cp scripts/library.sh "$toy/scripts/"
+echo 'capi:' >"$toy/crates.txt"
+echo one >"$toy/crates/capi/one"
+printf '#!/bin/sh\nmkdir -p target/staticlib && echo made >target/staticlib/libcapi.a\n' >"$toy/bin/rt"
+chmod +x "$toy/bin/rt"
+library() { run env PATH="$toy/bin:$PATH" bash -c 'cd / && bash "$@"' - "$toy/scripts/library.sh" "$@"; }
+remedy="run 'bash scripts/library.sh' at the root of the repository."
+library --check
+check "library: missing" 1 '' "The library target/staticlib/libcapi.a is missing: $remedy"
+library
+check "library: made" 0 '' ''
+library --check
+check "library: there" 0 '' ''
+echo two >"$toy/crates/capi/one"
+library --check
+check "library: made from other crates" 1 '' \
+  "The library target/staticlib/libcapi.a was built from other crates than those that are here now: $remedy"
+library
+library --check
+check "library: made again" 0 '' ''
+rm "$toy/target/staticlib/sum"
+library --check
+check "library: not built to its end" 1 '' "The library target/staticlib/libcapi.a was not built to its end: $remedy"
+
+echo "edges: $checks checks, 0 failed"
