@@ -1,6 +1,6 @@
 #!/usr/bin/env bash
 # Tries the edges of the two built programs: inputs and outputs that are closed, cannot be read, are full, are cut short or come in pieces;
-# texts of 65,536 bytes, of one more and of 100 MB; line ends and byte order marks. Then the scripts that read an output, look for commands
+# reads and writes that are interrupted, take a part or break off; texts of 65,536 bytes, of one more and of 100 MB; line ends and byte order marks. Then the scripts that read an output, look for commands
 # and look for the library, good cases and bad ones. Each check compares standard output, standard error and the exit status, all three exactly,
 # and prints a line with what it tried. The first difference ends the script with status 1.
 # shellcheck disable=SC2094 # one pipe is opened for reading and for writing
@@ -83,6 +83,7 @@ bytes() {
 }
 
 mkfifo "$work/fifo"
+cc -std=c99 -Wall -Wextra -Werror -O1 -shared -fPIC scripts/faults.c -o "$work/faults.so"
 long=$work/long-output # an output of over 65,536 bytes
 cat >"$work/long.runs_table" <<'END'
 weights,2898884,22978326,145927014,366516130,366516130,145927014,22978326
@@ -161,6 +162,22 @@ for name in runs_table runs_monitor; do
 
   run bash -c 'ulimit -S -s 1024 && exec "$0"' "$program" <"$work/long.$name"
   check "$name: the same with a stack of 1 MiB" 0 "@$long.$name" ''
+
+  # Reads and writes that fail on the way: faults.c makes them.
+  faulty() { FAULT=$1 LD_PRELOAD=$work/faults.so run "$program" <"$text.txt"; }
+  faulty read-interrupted
+  check "$name: interrupted reads" 0 "@$text.out" ''
+  faulty read-never
+  check "$name: reads that are interrupted without end" 0 '' 'standard input: Interrupted system call'
+  faulty read-breaks-off
+  check "$name: an input that breaks off behind a whole text" 0 '' 'standard input: Input/output error'
+  faulty write-interrupted
+  check "$name: interrupted writes" 0 "@$text.out" ''
+  faulty write-short
+  check "$name: writes that take a part" 0 "@$text.out" ''
+  faulty write-breaks-off
+  head -c 7 "$text.out" >"$work/cut"
+  check "$name: an output that breaks off" 0 "@$work/cut" 'standard output: Input/output error'
 
   # Too much to read: the program stops at 65,537 bytes.
   run timeout 300 "$program" < <(yes point,50000 2>/dev/null | head -c 100000000 2>/dev/null)

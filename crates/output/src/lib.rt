@@ -1,14 +1,15 @@
 // What both programs read from standard input and write to standard output, and what they say of an error on standard error.
 mod input;
+mod written;
 
 pub use input::Input;
 pub use input::read_input;
-use libc::STDOUT_FILENO;
 use rules::Refusal;
+use written::write_output;
 
 // A report's bytes, all of them, or what went wrong on standard error.
 pub fn lines(bytes: &[u8]) {
-    if !io::write_all(STDOUT_FILENO, bytes) {
+    if !write_output(bytes) {
         os::fail(b"standard output");
     }
 }
