@@ -17,7 +17,7 @@ use Rattle.runlength.specs.Scale.{unitsPerOne, percentsPerOne}
 use Rattle.runlength.specs.Chain.{cdfOf}
 use Rattle.bracket.specs.Bracket.{reaches, passes, highTest, lowTest, placeBy, percentilePlace, bracketOf}
 use Rattle.bracket.specs.Contains.{PlaceContains}
-use Rattle.bracket.specs.Accepted as Call
+use Rattle.bracket.specs.AcceptedBracket as Call
 use Rattle.bracket.specs.RefusedLaws.{answered}
 
 -- an accepted call is answered by its place

@@ -1,7 +1,7 @@
 pub mod Limits
 pub mod Bracket
 pub mod Contains
-pub mod Accepted
+pub mod AcceptedBracket
 pub mod Reached
 pub mod CdfLaws
 pub mod LeastLaws

@@ -15,7 +15,7 @@ ghost use Rattle.runlength.specs.Scale.{unitsPerOne};
 ghost use Rattle.runlength.specs.Chain.{cdfOf};
 ghost use Rattle.bracket.specs.declared.BracketAnswer.the-variants.{Refused};
 ghost use Rattle.bracket.specs.Bracket.{placeBy, percentilePlace, bracketOf};
-ghost use Rattle.bracket.specs.Accepted.{Accepted};
+ghost use Rattle.bracket.specs.AcceptedBracket.{Accepted};
 ghost use Rattle.bracket.specs.Reached.{optionOf};
 
 mod search;

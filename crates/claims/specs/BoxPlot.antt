@@ -20,20 +20,20 @@ use Rattle.bracket.specs.BracketLaws.{accepted-bracket}
 use Rattle.bracket.specs.Contains.{PlaceContains}
 use Rattle.summary.specs.declared.Summary.{Summary}
 use Rattle.summary.specs.Summary.{summaryBy}
-use Rattle.summary.specs.Accepted.{AcceptedSummary}
+use Rattle.summary.specs.AcceptedSummary.{AcceptedSummary}
 use Rattle.summary.specs.SummaryLaws.{accepted-summary}
 use Rattle.plot.specs.declared.PlotItem.{PlotItem}
 use Rattle.plot.specs.declared.PlotRecord.{PlotRecord}
 use Rattle.plot.specs.declared.BoxPlotAnswer.{BoxPlotAnswer}
-use Rattle.plot.specs.Mean.{partsPerOne, unitsPerPart, roundDown, roundUp}
-use Rattle.plot.specs.MeanLaws.{down-below, up-above}
+use Rattle.plot.specs.MeanBounds.{partsPerOne, unitsPerPart, roundDown, roundUp}
+use Rattle.plot.specs.MeanBoundsLaws.{down-below, up-above}
 use Rattle.plot.specs.Item.{pointOf}
 use Rattle.plot.specs.Plot.{boxPlotOf}
 use Rattle.plot.specs.Shown.{Shows, ShowsSpread, ShowsSummary}
 use Rattle.plot.specs.PlotLaws.{PlotOf, plot-of, record-shows}
 use Rattle.claims.specs.Exact.{exactMean, reached}
 use Rattle.claims.specs.ExactLaws.{mean-of-chain}
-use Rattle.claims.specs.PercentileLaws.{call-contains}
+use Rattle.claims.specs.ContainsLaws.{call-contains}
 
 -- the place of a percent by exactly the H chances as the call wrote them and this N
 abbrev pub placeIn : TableCall → ℕ → Place

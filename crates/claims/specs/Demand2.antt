@@ -17,8 +17,8 @@ use Rattle.table.specs.declared.TableAnswer.{TableAnswer}
 use Rattle.table.specs.ByState.{overStates, stateSignalled, stateUnits}
 use Rattle.table.specs.Table.{TableCall, rulesOf, tableOf, meanOf}
 use Rattle.table.specs.TableChainLaws.{chain-pmf, chain-survival}
-use Rattle.table.specs.Accepted.{AcceptedTable}
-use Rattle.table.specs.AcceptedLaws.{accepted-table}
+use Rattle.table.specs.AcceptedTable.{AcceptedTable}
+use Rattle.table.specs.AcceptedTableLaws.{accepted-table}
 use Rattle.claims.specs.Named.{EachAnswered}
 use Rattle.claims.specs.NamedLaws.{chart-answered}
 use Rattle.claims.specs.Counted.{Counts}

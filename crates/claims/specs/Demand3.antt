@@ -27,8 +27,8 @@ use Rattle.monitor.specs.Agreement.{agreement, no-call-gets-5, no-refused-call}
 use Rattle.table.specs.declared.TableFigures.{TableFigures}
 use Rattle.table.specs.declared.TableAnswer.{TableAnswer}
 use Rattle.table.specs.Table.{TableCall, rulesOf, chainOf, tableOf, pmfOf, meanOf}
-use Rattle.table.specs.Accepted.{AcceptedTable}
-use Rattle.table.specs.AcceptedLaws.{accepted-table}
+use Rattle.table.specs.AcceptedTable.{AcceptedTable}
+use Rattle.table.specs.AcceptedTableLaws.{accepted-table}
 use Rattle.bracket.specs.declared.Place.the-variants.{At, Between, Open, Beyond}
 use Rattle.bracket.specs.Limits.{minPercent, maxPercent}
 use Rattle.bracket.specs.Bracket.{bracketOf}
@@ -37,7 +37,7 @@ use Rattle.bracket.specs.BracketLaws.{accepted-bracket}
 use Rattle.summary.specs.SummaryLaws.{brackets-accepted}
 use Rattle.claims.specs.Exact.{freeAnswers, saysSignal, exactSum, exactMean, monitorSum, reached}
 use Rattle.claims.specs.ExactLaws.{sum-of-chain, mean-of-chain}
-use Rattle.claims.specs.PercentileLaws.{call-contains}
+use Rattle.claims.specs.ContainsLaws.{call-contains}
 use Rattle.claims.specs.MonitorLaws.{monitor-free}
 
 -- ---- the monitor and the plain chart, for every accepted rule list

@@ -2,7 +2,7 @@
 pub mod Exact
 pub mod ExactLaws
 pub mod MonitorLaws
-pub mod PercentileLaws
+pub mod ContainsLaws
 pub mod Named
 pub mod NamedLaws
 pub mod Counted

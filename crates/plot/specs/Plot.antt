@@ -11,7 +11,7 @@ use Rattle.plot.specs.declared.PlotRecord.{PlotRecord}
 use Rattle.plot.specs.declared.BoxPlotAnswer.{BoxPlotAnswer}
 use Rattle.plot.specs.declared.BoxPlotAnswer.the-variants as plot
 use Rattle.plot.specs.Double.{nearestTo}
-use Rattle.plot.specs.Mean.{partsPerOne, roundDown, roundUp, MeanFits}
+use Rattle.plot.specs.MeanBounds.{partsPerOne, roundDown, roundUp, MeanFits}
 use Rattle.plot.specs.Item.{itemOf, Ordered, spreadOf}
 
 -- the mean's lower and upper value in parts of 2^-36: rounded down; with its error bound, rounded up

@@ -13,13 +13,13 @@ use Rattle.summary.specs.declared.Summary.{Summary}
 use Rattle.summary.specs.declared.SummaryAnswer.{SummaryAnswer}
 use Rattle.summary.specs.declared.SummaryAnswer.the-variants as summary
 use Rattle.summary.specs.Summary.{summaryBy, SummaryResult, summaryResult, summaryOf}
-use Rattle.summary.specs.Accepted.{AcceptedSummary}
+use Rattle.summary.specs.AcceptedSummary.{AcceptedSummary}
 use Rattle.summary.specs.SummaryLaws.{accepted-summary}
 use Rattle.plot.specs.declared.PlotRecord.{PlotRecord}
 use Rattle.plot.specs.declared.BoxPlotAnswer.{BoxPlotAnswer}
 use Rattle.plot.specs.DoubleLaws.{exact}
-use Rattle.plot.specs.Mean.{MeanFits}
-use Rattle.plot.specs.MeanLaws.{down-fits, up-fits}
+use Rattle.plot.specs.MeanBounds.{MeanFits}
+use Rattle.plot.specs.MeanBoundsLaws.{down-fits, up-fits}
 use Rattle.plot.specs.Item.{pointOf, inOrder, Ordered, spread}
 use Rattle.plot.specs.Shown.{ShowsSpread, ShowsSummary}
 use Rattle.plot.specs.ItemLaws.{number, shown, point-found, ordered}

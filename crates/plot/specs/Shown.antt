@@ -11,7 +11,7 @@ use Rattle.summary.specs.declared.Summary.{Summary}
 use Rattle.plot.specs.declared.PlotItem.{PlotItem}
 use Rattle.plot.specs.declared.PlotItem.the-variants as item
 use Rattle.plot.specs.declared.PlotRecord.{PlotRecord}
-use Rattle.plot.specs.Mean.{partsPerOne}
+use Rattle.plot.specs.MeanBounds.{partsPerOne}
 use Rattle.plot.specs.Item.{pointOf}
 use Rattle.plot.specs.Plot.{lowerParts, upperParts}
 

@@ -14,7 +14,7 @@ ghost use Rattle.table.specs.Table.{tableCall, meanOf};
 ghost use Rattle.summary.specs.ErrorBound.{maxErrorBound};
 ghost use Rattle.plot.specs.Double.{Exactly};
 ghost use Rattle.plot.specs.Item.{itemOf, Ordered, spreadOf};
-ghost use Rattle.plot.specs.Mean.{partsPerOne, roundDown, roundUp, MeanFits};
+ghost use Rattle.plot.specs.MeanBounds.{partsPerOne, roundDown, roundUp, MeanFits};
 ghost use Rattle.plot.specs.Plot.{recordOf, Plottable, boxPlotResult, boxPlotOf};
 
 // A percentile for the plotter: at a number, between two, at one or above, or beyond the horizon.

@@ -1,9 +1,9 @@
 pub mod Field
 pub mod Refused
 pub mod Monitor
-pub mod Row
+pub mod RowLine
 pub mod Rowed
-pub mod RowLaws
-pub mod Percentile
-pub mod PercentileLaws
-pub mod Table
+pub mod RowLineLaws
+pub mod PercentLine
+pub mod PercentLineLaws
+pub mod TableLines

@@ -5,7 +5,7 @@ use mathlib.Core.List.{List}
 use lib.ListN.{length}
 use Rattle.text.specs.Wrote.{Wrote}
 use Rattle.runlength.specs.Chain.{cdfOf}
-use Rattle.print.specs.Row.{rowRoom, tableRows}
+use Rattle.print.specs.RowLine.{rowRoom, tableRows}
 
 -- n rows of h stand in the buffer from `at` on, up to e, and `cdf` is the sum of their chances
 pub record Rowed (before : List ℕ) (at h : ℕ) (pmf survival after : List ℕ) (e cdf n : ℕ) : Type 0 where

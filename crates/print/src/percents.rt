@@ -7,8 +7,8 @@ use text::put_byte;
 ghost use Prim.Native.Nat.{_+_, _≤_};
 ghost use lib.ListN.{length};
 ghost use Rattle.text.specs.Wrote.{Wrote};
-ghost use Rattle.print.specs.Percentile.{placeFields, percentLine, percentLines};
-ghost use Rattle.print.specs.Percentile.{placeRoom, percentRoom, percentsRoom};
+ghost use Rattle.print.specs.PercentLine.{placeFields, percentLine, percentLines};
+ghost use Rattle.print.specs.PercentLine.{placeRoom, percentRoom, percentsRoom};
 
 // Where a percentile lies.
 fn put_place(out: &mut [u8], at: usize, place: Place) -> usize

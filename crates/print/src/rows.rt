@@ -9,8 +9,8 @@ ghost use lib.ListN.{length};
 ghost use Rattle.text.specs.Wrote.{Wrote};
 ghost use Rattle.runlength.specs.Scale.{unitsPerOne};
 ghost use Rattle.runlength.specs.Chain.{cdfOf};
-ghost use Rattle.print.specs.Row.{standingsLine, standingsRoom, headerLine, headerRoom, rowLine, rowRoom, tableRows};
-ghost use Rattle.print.specs.Row.{arlLine, arlRoom};
+ghost use Rattle.print.specs.RowLine.{standingsLine, standingsRoom, headerLine, headerRoom, rowLine, rowRoom, tableRows};
+ghost use Rattle.print.specs.RowLine.{arlLine, arlRoom};
 
 // The line `standings,N`.
 pub fn put_standings(out: &mut [u8], at: usize, state_count: u32) -> usize

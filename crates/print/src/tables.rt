@@ -10,7 +10,7 @@ ghost use lib.ListN.{length};
 ghost use Rattle.runlength.specs.Scale.{unitsPerOne};
 ghost use Rattle.runlength.specs.Chain.{cdfOf};
 ghost use Rattle.text.specs.Wrote.{Wrote};
-ghost use Rattle.print.specs.Table.{tableBytes, maxRows, tableRoom};
+ghost use Rattle.print.specs.TableLines.{tableBytes, maxRows, tableRoom};
 
 // The table program's output, from the buffer's start: a table's summary, and its rows up to the horizon.
 pub fn put_table(

@@ -12,8 +12,8 @@ use Rattle.text.specs.Word.{newline as lf}
 use Rattle.print.specs.Field.{field}
 use Rattle.print.specs.Refused.{refusedWord, refusedLine}
 use Rattle.print.specs.Monitor.{quietWord, signalWord, quietLine, signalLine}
-use Rattle.print.specs.Row.{standingsWord, arlWord, standingsLine, rowLine, arlLine}
-use Rattle.print.specs.Percentile.{qWord, placeFields, percentLine}
+use Rattle.print.specs.RowLine.{standingsWord, arlWord, standingsLine, rowLine, arlLine}
+use Rattle.print.specs.PercentLine.{qWord, placeFields, percentLine}
 use Rattle.program_claims.specs.NumberOnce.{comma, newline, number-once, behind-once, fields-once}
 
 -- a line of a word and fields

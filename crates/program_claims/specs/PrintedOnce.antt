@@ -16,8 +16,8 @@ use Rattle.text.specs.declared.lines.ZoneWeights.{ZoneWeights}
 use Rattle.text.specs.Format.{field, fields, weightList}
 use Rattle.print.specs.Refused.{refusedLine}
 use Rattle.print.specs.Monitor.{quietLine, signalLine, totalLine}
-use Rattle.print.specs.Row.{standingsLine, headerLine, rowLine, arlLine}
-use Rattle.print.specs.Percentile.{percentLine}
+use Rattle.print.specs.RowLine.{standingsLine, headerLine, rowLine, arlLine}
+use Rattle.print.specs.PercentLine.{percentLine}
 use Rattle.report.specs.Printed.{printedBytes}
 use Rattle.report.specs.Points.{zonesOf, answerLines, pointsBytes}
 use Rattle.report.specs.TableReport.{tablePrinted}

@@ -19,9 +19,9 @@ use Rattle.text.specs.Size.{maxText}
 use Rattle.text.specs.Word.{newlines}
 use Rattle.parse.specs.Rules.{ruleListOf}
 use Rattle.print.specs.Refused.{refusedLine}
-use Rattle.print.specs.Row.{standingsLine, headerLine, rowLine, arlLine}
-use Rattle.print.specs.Percentile.{percentLine}
-use Rattle.print.specs.Table.{maxRows}
+use Rattle.print.specs.RowLine.{standingsLine, headerLine, rowLine, arlLine}
+use Rattle.print.specs.PercentLine.{percentLine}
+use Rattle.print.specs.TableLines.{maxRows}
 use Rattle.report.specs.TableReport.{reportHorizon}
 use Rattle.report.specs.Points.{zonesOf, pointsBytes}
 use Rattle.runlength.specs.Scale.{weightTotal, unitsPerOne}

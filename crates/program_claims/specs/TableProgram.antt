@@ -25,7 +25,7 @@ use Rattle.bracket.specs.Bracket.{percentilePlace}
 use Rattle.summary.specs.declared.Summary.{Summary}
 use Rattle.summary.specs.declared.SummaryAnswer.{SummaryAnswer}
 use Rattle.summary.specs.Summary.{summaryBy, summaryOf}
-use Rattle.summary.specs.Accepted.{AcceptedSummary}
+use Rattle.summary.specs.AcceptedSummary.{AcceptedSummary}
 use Rattle.summary.specs.SummaryLaws.{accepted-summary, accepted-figures, refused-table}
 use Rattle.text.specs.declared.lines.ZoneWeights.{ZoneWeights}
 use Rattle.text.specs.Format.{weightList}
@@ -33,14 +33,14 @@ use Rattle.parse.specs.declared.tables.TableText.{TableText}
 use Rattle.parse.specs.Rules.{ruleListOf}
 use Rattle.parse.specs.RulesLaws.{active-rules}
 use Rattle.parse.specs.TableText.{refusedTable, readTable, tableText}
-use Rattle.print.specs.Row.{rowLine, tableRows}
-use Rattle.print.specs.Percentile.{percentLines}
-use Rattle.print.specs.Table.{tableBytes, maxRows}
+use Rattle.print.specs.RowLine.{rowLine, tableRows}
+use Rattle.print.specs.PercentLine.{percentLines}
+use Rattle.print.specs.TableLines.{tableBytes, maxRows}
 use Rattle.report.specs.Printed.{refusedBy, printedBytes}
 use Rattle.report.specs.TableReport.{reportHorizon, reportCall, tableLines, linesOf, blank, tablePrinted}
 use Rattle.report.specs.TableReportLaws.{horizon-small}
 use Rattle.claims.specs.Exact.{reached}
-use Rattle.claims.specs.PercentileLaws.{call-contains}
+use Rattle.claims.specs.ContainsLaws.{call-contains}
 use Rattle.claims.specs.Demand3.{cdf-bounds, mean-bounds}
 use Rattle.program_claims.specs.Texts.{TableTextIs, TableReading, too-long, stopped, read}
 use Rattle.program_claims.specs.TableBytes.{table-reading, table-read, table-text-once, table-stopped, table-too-long as text-too-long}

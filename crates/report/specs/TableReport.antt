@@ -9,7 +9,7 @@ use Rattle.summary.specs.declared.SummaryAnswer.{SummaryAnswer}
 use Rattle.summary.specs.Summary.{SummaryResult, summaryOf}
 use Rattle.parse.specs.declared.tables.TableText.{TableText}
 use Rattle.parse.specs.TableText.{tableText}
-use Rattle.print.specs.Table.{tableBytes, maxRows}
+use Rattle.print.specs.TableLines.{tableBytes, maxRows}
 use Rattle.report.specs.Printed.{Printed, lines, refusedBy}
 
 -- the program takes a horizon up to 4,096; a larger one is refused by 9, in 9's place, as 0 is

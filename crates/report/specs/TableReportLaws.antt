@@ -15,12 +15,12 @@ use Rattle.table.specs.Table.{TableCall, tableCall}
 use Rattle.summary.specs.declared.Summary.{Summary}
 use Rattle.summary.specs.declared.SummaryAnswer.{SummaryAnswer}
 use Rattle.summary.specs.Summary.{SummaryResult, summaryResult, summaryOf}
-use Rattle.summary.specs.Accepted.{AcceptedSummary}
+use Rattle.summary.specs.AcceptedSummary.{AcceptedSummary}
 use Rattle.summary.specs.SummaryLaws.{accepted-summary}
 use Rattle.text.specs.Wrote.{Wrote}
 use Rattle.parse.specs.declared.tables.TableText.{TableText}
 use Rattle.parse.specs.TableText.{tableText}
-use Rattle.print.specs.Table.{tableBytes, maxRows}
+use Rattle.print.specs.TableLines.{tableBytes, maxRows}
 use Rattle.report.specs.declared.ReportAnswer.the-variants.{Written, Refused}
 use Rattle.report.specs.Printed.{report, reportOf}
 use Rattle.report.specs.PrintedLaws.{as-refused, as-written}

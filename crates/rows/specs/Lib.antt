@@ -5,8 +5,8 @@ pub mod WordsLaws
 pub mod Edges
 pub mod EdgesLaws
 pub mod GroupLaws
-pub mod Flow
-pub mod FlowLaws
+pub mod RowFlow
+pub mod RowFlowLaws
 pub mod Rows
 pub mod Running
 pub mod RunningLaws

@@ -21,7 +21,7 @@ use Rattle.rows.specs.MoreSumLaws.{only-mul, getD-zeros}
 use Rattle.rows.specs.Rows.{chain, Weights, CanRun, Ran}
 use Rattle.rows.specs.Edges.{target, moved, weightTo, CanGroup, Grouped}
 use Rattle.rows.specs.EdgesLaws.{moved-all}
-use Rattle.rows.specs.Flow.{flow, Edges, CanRow, Rowed}
+use Rattle.rows.specs.RowFlow.{flow, Edges, CanRow, Rowed}
 use Rattle.rows.specs.Running.{Running, Meant}
 
 -- a move's share for a state, and for the signal

@@ -1,6 +1,6 @@
 // One row of the table: the units of all states sent along the edges, and the sums divided once.
 ghost use mathlib.Core.Path.{_≡_};
-ghost use Rattle.rows.specs.Flow.{CanSend, Sent, CanPush, Pushed, CanRow, Rowed};
+ghost use Rattle.rows.specs.RowFlow.{CanSend, Sent, CanPush, Pushed, CanRow, Rowed};
 use crate::words::add_product;
 use crate::words::clear;
 use crate::words::settle;

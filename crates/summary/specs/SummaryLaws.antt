@@ -10,15 +10,15 @@ use Rattle.table.specs.declared.TableFigures.{TableFigures}
 use Rattle.table.specs.declared.TableAnswer.{TableAnswer}
 use Rattle.table.specs.declared.TableAnswer.the-variants as table
 use Rattle.table.specs.Table.{TableCall, TableResult, tableResult, tableOf, pmfOf}
-use Rattle.table.specs.Accepted.{AcceptedTable}
-use Rattle.table.specs.AcceptedLaws.{accepted-table}
+use Rattle.table.specs.AcceptedTable.{AcceptedTable}
+use Rattle.table.specs.AcceptedTableLaws.{accepted-table}
 use Rattle.bracket.specs.Limits.{minPercent, maxPercent}
-use Rattle.bracket.specs.Accepted as Bracket
+use Rattle.bracket.specs.AcceptedBracket as Bracket
 use Rattle.summary.specs.declared.Summary.{Summary}
 use Rattle.summary.specs.declared.SummaryAnswer.the-variants.{Accepted, Refused}
 use Rattle.summary.specs.Summary.{summaryBy, summaryResult, summarized, summaryOf}
 use Rattle.summary.specs.ErrorBound.{error-bound-most}
-use Rattle.summary.specs.Accepted.{Summarizable, AcceptedSummary}
+use Rattle.summary.specs.AcceptedSummary.{Summarizable, AcceptedSummary}
 
 -- the bracket of exactly an accepted table's chances, with its N, is accepted for every percent
 pub brackets-accepted : {t : TableCall} {f : TableFigures} → AcceptedTable t f → (p : ℕ) → minPercent ≤ p → p ≤ maxPercent

@@ -13,7 +13,7 @@ ghost use Rattle.runlength.specs.Scale.{minHorizon, maxHorizon};
 ghost use Rattle.runlength.specs.Chain.{errorBoundOf};
 ghost use Rattle.table.specs.Table.{tableCall};
 ghost use Rattle.summary.specs.Summary.{summaryBy, summaryResult, summaryOf};
-ghost use Rattle.summary.specs.Accepted.{Summarizable};
+ghost use Rattle.summary.specs.AcceptedSummary.{Summarizable};
 
 // The error bound (document 01's allowed shortfall) is of the mean, in units of 2^-60. Of each percent the place of its percentile.
 pub struct Summary {

@@ -22,7 +22,7 @@ use Rattle.states.specs.Explore.{Explored}
 use Rattle.table.specs.TableChain.{exploredCount, stateCount, chainMoves}
 use Rattle.table.specs.Table.{chartCheck}
 use Rattle.table.specs.ChartChecked.{HoldsMoves}
-use Rattle.table.specs.Accepted.{AcceptedChart}
+use Rattle.table.specs.AcceptedTable.{AcceptedChart}
 
 module _ (l : RuleList) (w : List ℕ) (h : ℕ) where
   -- 2, 3 and 4

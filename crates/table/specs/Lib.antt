@@ -3,10 +3,10 @@ pub mod TableChain
 pub mod ByState
 pub mod Table
 pub mod ChartChecked
-pub mod Accepted
+pub mod AcceptedTable
 pub mod TableChainLaws
 pub mod ChartLaws
 pub mod ChartCheckedLaws
 pub mod PrefixLaws
 pub mod TableLaws
-pub mod AcceptedLaws
+pub mod AcceptedTableLaws

@@ -1,5 +1,5 @@
 -- `plot::lower_mean` meets its contract: the fraction's top bits are the parts rounded down.
-use Rattle.plot.specs.MeanLaws.{down-parts}
+use Rattle.plot.specs.MeanBoundsLaws.{down-parts}
 use borrow.Author.Needs.{needs}
 use Rattle.plot.proofs.lower_mean.Statement.{statement}
 use Rattle.plot.proofs.lower_mean.Tie as tie

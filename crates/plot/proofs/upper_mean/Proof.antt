@@ -1,5 +1,5 @@
 -- `plot::upper_mean` meets its contract: the parts rounded up, those over one carried into the whole part.
-use Rattle.plot.specs.MeanLaws.{up-parts}
+use Rattle.plot.specs.MeanBoundsLaws.{up-parts}
 use borrow.Author.Needs.{needs}
 use Rattle.plot.proofs.upper_mean.Statement.{statement}
 use Rattle.plot.proofs.upper_mean.Tie as tie

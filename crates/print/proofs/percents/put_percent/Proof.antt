@@ -1,7 +1,7 @@
 -- `print::put_percent` meets its contract: the percent, the place, LF.
 use native.Mathlib.Omega.{arith}
 use Rattle.text.specs.WroteLaws.{then}
-use Rattle.print.specs.Percentile.{percentLine}
+use Rattle.print.specs.PercentLine.{percentLine}
 use borrow.Author.Needs.{needs}
 use Rattle.print.proofs.percents.put_percent.Statement.{statement}
 use Rattle.print.proofs.percents.put_percent.Tie as tie

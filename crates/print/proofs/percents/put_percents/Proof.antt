@@ -1,7 +1,7 @@
 -- `print::put_percents` meets its contract: five lines, one behind the other.
 use native.Mathlib.Omega.{arith}
 use Rattle.text.specs.WroteLaws.{then}
-use Rattle.print.specs.Percentile.{percentLines}
+use Rattle.print.specs.PercentLine.{percentLines}
 use borrow.Author.Needs.{needs}
 use Rattle.print.proofs.percents.put_percents.Statement.{statement}
 use Rattle.print.proofs.percents.put_percents.Tie as tie

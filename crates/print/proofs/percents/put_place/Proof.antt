@@ -1,8 +1,8 @@
 -- `print::put_place` meets its contract: the fields of each case.
 use native.Mathlib.Omega.{arith}
 use Rattle.text.specs.WroteLaws.{then}
-use Rattle.print.specs.Percentile.{placeFields}
-use Rattle.print.specs.PercentileLaws.{same-place}
+use Rattle.print.specs.PercentLine.{placeFields}
+use Rattle.print.specs.PercentLineLaws.{same-place}
 use borrow.Author.Needs.{needs}
 use Rattle.print.proofs.percents.put_place.Statement.{statement}
 use Rattle.print.proofs.percents.put_place.Tie as tie

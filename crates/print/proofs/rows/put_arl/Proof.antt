@@ -2,7 +2,7 @@
 use borrow.Author.Needs.{needs}
 use native.Mathlib.Omega.{arith}
 use Rattle.text.specs.WroteLaws.{then}
-use Rattle.print.specs.Row.{arlLine}
+use Rattle.print.specs.RowLine.{arlLine}
 use Rattle.print.proofs.rows.put_arl.Statement.{statement}
 use Rattle.print.proofs.rows.put_arl.Tie as tie
 

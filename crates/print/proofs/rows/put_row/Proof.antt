@@ -2,7 +2,7 @@
 use borrow.Author.Needs.{needs}
 use native.Mathlib.Omega.{arith}
 use Rattle.text.specs.WroteLaws.{then}
-use Rattle.print.specs.Row.{rowLine}
+use Rattle.print.specs.RowLine.{rowLine}
 use Rattle.print.proofs.rows.put_row.Statement.{statement}
 use Rattle.print.proofs.rows.put_row.Tie as tie
 

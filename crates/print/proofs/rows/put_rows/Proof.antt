@@ -3,7 +3,7 @@ use borrow.Author.Needs.{needs}
 use Prim.Native.Nat.{_-_}
 use native.Mathlib.Omega.{arith}
 use Rattle.print.specs.Rowed.{Rowed}
-use Rattle.print.specs.RowLaws.{rowed-start, rowed-sum, rowed-more, rowed-done}
+use Rattle.print.specs.RowLineLaws.{rowed-start, rowed-sum, rowed-more, rowed-done}
 use Rattle.print.proofs.rows.put_rows.Statement.{statement}
 use Rattle.print.proofs.rows.put_rows.Tie as tie
 

@@ -2,7 +2,7 @@
 use borrow.Author.Needs.{needs}
 use native.Mathlib.Omega.{arith}
 use Rattle.text.specs.WroteLaws.{then}
-use Rattle.print.specs.Row.{standingsLine}
+use Rattle.print.specs.RowLine.{standingsLine}
 use Rattle.print.proofs.rows.put_standings.Statement.{statement}
 use Rattle.print.proofs.rows.put_standings.Tie as tie
 

@@ -1,7 +1,7 @@
 -- `print::put_table` meets its contract: its parts, one behind the other.
 use native.Mathlib.Omega.{arith}
 use Rattle.text.specs.WroteLaws.{then}
-use Rattle.print.specs.Table.{tableBytes}
+use Rattle.print.specs.TableLines.{tableBytes}
 use borrow.Author.Needs.{needs}
 use Rattle.print.proofs.tables.put_table.Statement.{statement}
 use Rattle.print.proofs.tables.put_table.Tie as tie

@@ -5,8 +5,8 @@ use native.Mathlib.Omega.{arith}
 use lib.ListN.{length}
 use Rattle.runlength.specs.Sum.{sum, at}
 use Rattle.runlength.specs.SumLaws.{sum-zero}
-use Rattle.rows.specs.Flow.{Pushed}
-use Rattle.rows.specs.FlowLaws.{push-start, push-can, push-more, push-end, push-done}
+use Rattle.rows.specs.RowFlow.{Pushed}
+use Rattle.rows.specs.RowFlowLaws.{push-start, push-can, push-more, push-end, push-done}
 use borrow.Author.Needs.{needs}
 use Rattle.rows.proofs.flow.push.Statement.{statement}
 use Rattle.rows.proofs.flow.push.Tie as tie

@@ -1,5 +1,5 @@
 -- `flow::row` meets its contract.
-use Rattle.rows.specs.FlowLaws.{row-can, row-done, row-none}
+use Rattle.rows.specs.RowFlowLaws.{row-can, row-done, row-none}
 use borrow.Author.Needs.{needs}
 use Rattle.rows.proofs.flow.row.Statement.{statement}
 use Rattle.rows.proofs.flow.row.Tie as tie

@@ -1,8 +1,8 @@
 -- `flow::send` meets its contract: after j turns the units are sent along the first j edges.
 use Prim.Native.Nat.{_-_, _≤_}
 use native.Mathlib.Omega.{arith}
-use Rattle.rows.specs.Flow.{Sent}
-use Rattle.rows.specs.FlowLaws.{send-start, send-can, send-more, send-done}
+use Rattle.rows.specs.RowFlow.{Sent}
+use Rattle.rows.specs.RowFlowLaws.{send-start, send-can, send-more, send-done}
 use borrow.Author.Needs.{needs}
 use Rattle.rows.proofs.flow.send.Statement.{statement}
 use Rattle.rows.proofs.flow.send.Tie as tie

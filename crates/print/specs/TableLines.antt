@@ -2,8 +2,8 @@
 use Prim.Native.Nat.{ℕ, _+_, _*_}
 use mathlib.Core.List.{List, _++_}
 use Rattle.summary.specs.declared.Summary.{Summary}
-use Rattle.print.specs.Row.{standingsLine, standingsRoom, headerLine, headerRoom, rowRoom, tableRows, arlLine, arlRoom}
-use Rattle.print.specs.Percentile.{percentLines, percentsRoom}
+use Rattle.print.specs.RowLine.{standingsLine, standingsRoom, headerLine, headerRoom, rowRoom, tableRows, arlLine, arlRoom}
+use Rattle.print.specs.PercentLine.{percentLines, percentsRoom}
 
 -- N standings, h rows of the chances and of what is left, the mean's whole part and fraction with its error bound, the five percentiles
 unfoldable pub tableBytes : Summary → ℕ → List ℕ → List ℕ → List ℕ

@@ -12,7 +12,7 @@ use Rattle.runlength.specs.PercentileLaws.{least-cong, bracket-contains}
 use Rattle.table.specs.declared.TableFigures.{TableFigures}
 use Rattle.table.specs.TableChain.{stateCount}
 use Rattle.table.specs.Table.{TableCall, rulesOf, chainOf, pmfOf}
-use Rattle.table.specs.Accepted.{AcceptedTable}
+use Rattle.table.specs.AcceptedTable.{AcceptedTable}
 use Rattle.bracket.specs.Bracket.{reaches, passes, highTest, lowTest, percentilePlace}
 use Rattle.bracket.specs.Contains.{PlaceContains}
 use Rattle.bracket.specs.BracketLaws.{place-contains}

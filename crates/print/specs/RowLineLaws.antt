@@ -9,7 +9,7 @@ use Rattle.text.specs.Wrote.{Wrote}
 use Rattle.text.specs.WroteLaws.{wrote-nothing, wrote-length, then}
 use Rattle.runlength.specs.Chain.{cdfOf}
 use Rattle.bracket.specs.CdfLaws.{cdf-zero, cdf-more, cdf-upto}
-use Rattle.print.specs.Row.{rowLine, rowRoom, tableRows}
+use Rattle.print.specs.RowLine.{rowLine, rowRoom, tableRows}
 use Rattle.print.specs.Rowed.{Rowed}
 
 rows-none : (pmf survival : List ℕ) → tableRows 0 pmf survival ≡ []

@@ -5,9 +5,9 @@ use Prim.Native.Nat.{ℕ, _≤_}
 use Rattle.rules.specs.Bounds.{maxStates}
 use Rattle.runlength.specs.Scale.{minHorizon, maxHorizon}
 use Rattle.table.specs.Table.{TableCall, pmfOf}
-use Rattle.table.specs.Accepted.{AcceptedTable}
+use Rattle.table.specs.AcceptedTable.{AcceptedTable}
 use Rattle.bracket.specs.Limits.{minPercent, maxPercent}
-use Rattle.bracket.specs.Accepted.{Accepted}
+use Rattle.bracket.specs.AcceptedBracket.{Accepted}
 use Rattle.summary.specs.declared.Summary.{Summary}
 use Rattle.summary.specs.Summary.{summaryBy}
 use Rattle.summary.specs.ErrorBound.{maxErrorBound}

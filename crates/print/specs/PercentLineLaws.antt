@@ -4,7 +4,7 @@ use mathlib.Core.Path.{_≡_}
 use mathlib.Core.List.{List}
 use Rattle.bracket.specs.declared.Place.{Place}
 use Rattle.text.specs.Wrote.{Wrote}
-use Rattle.print.specs.Percentile.{placeFields}
+use Rattle.print.specs.PercentLine.{placeFields}
 
 pub same-place : {a b : List ℕ} {i r : ℕ} {x y : Place} → x ≡ y → Wrote a i b r (placeFields y) → Wrote a i b r (placeFields x)
 same-place e u = rw e u

@@ -4,7 +4,7 @@ use Prim.Native.Nat.{ℕ, _+_, _-_, _*_, _/_, _%_, _^_, _≤_, _<_}
 use native.Mathlib.Omega.{arith}
 use Rattle.runlength.specs.Scale.{maxHorizon, unitsPerOne}
 use Rattle.summary.specs.ErrorBound.{maxErrorBound}
-use Rattle.plot.specs.Mean.{partsPerOne, unitsPerPart, roundDown, roundUp}
+use Rattle.plot.specs.MeanBounds.{partsPerOne, unitsPerPart, roundDown, roundUp}
 
 -- rounded down: the whole part's parts, and those of the fraction
 pub down-parts : (w f : ℕ) → roundDown (w * unitsPerOne + f) ≡ w * partsPerOne + f / unitsPerPart

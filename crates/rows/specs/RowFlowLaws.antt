@@ -13,7 +13,7 @@ use Rattle.rows.specs.MoreSumLaws.{only-mul, length-front, getD-front}
 use Rattle.rows.specs.Words.{value, zeros, CanAdd, Added, CanSettle, Settled}
 use Rattle.rows.specs.Edges.{share, weightTo}
 use Rattle.rows.specs.EdgesLaws.{share-zero, share-more, share-own}
-use Rattle.rows.specs.Flow.{flow, Ready, CanSend, Sent, Edges, CanPush, Pushed, CanRow, Rowed}
+use Rattle.rows.specs.RowFlow.{flow, Ready, CanSend, Sent, Edges, CanPush, Pushed, CanRow, Rowed}
 
 module _ {tg sh : List ℕ} {high low b c : ℕ} {hi₀ lo₀ : List ℕ} (p : CanSend tg sh high low b c hi₀ lo₀) where
   pub send-start : Sent tg sh high low b 0 hi₀ lo₀ hi₀ lo₀
