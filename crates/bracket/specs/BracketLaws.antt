@@ -65,7 +65,7 @@ over a x s h l = omega arith
 
 module _ (pmf : List ℕ) (count p : ℕ) where
   -- what passes the high test passes the low test
-  pub high-low : (n : ℕ) → 1 ≤ n → T (highTest pmf p n) → T (lowTest pmf count p n)
+  high-low : (n : ℕ) → 1 ≤ n → T (highTest pmf p n) → T (lowTest pmf count p n)
   unfolding reaches passes
   high-low n i t =
       lt→ltb _ _ (over (p * unitsPerOne) (cdfOf pmf n) (n * (count + 1)) (leb→le _ _ t) (mul-le-mul {n₁ = 1} {m₁ = 1} {n₂ = n} {m₂ = count + 1} i (omega arith)))

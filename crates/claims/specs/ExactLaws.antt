@@ -45,7 +45,7 @@ module _ (rs : List Rule) where
     unfolding exactSum exactCdf
     sum-of-chart n = sequences-cong-all zoneCount n (λ q. ap (λ b. only b (product (at w) q)) (free-signals q []))
 
-    pub mean-of-chart : (h : ℕ) → exactMean rs w h ≡ exactRestrictedMean (referenceAutomaton rs) (at w) h
+    mean-of-chart : (h : ℕ) → exactMean rs w h ≡ exactRestrictedMean (referenceAutomaton rs) (at w) h
     unfolding exactMean exactRestrictedMean
     mean-of-chart h = sequences-cong-all zoneCount h (λ q. ap (λ k. product (at w) q * k) (free-runLength q []))
 

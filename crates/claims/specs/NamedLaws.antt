@@ -51,11 +51,11 @@ module _ (rs : List Rule) (row : List ℕ) where
   unfolding rowMask
   mask-none e = record { none = none-of row rs e }
 
-  pub mask-some : (rowMask rs row ≡ 0 → ⊥) → SomeHolds rs row
+  mask-some : (rowMask rs row ≡ 0 → ⊥) → SomeHolds rs row
   unfolding rowMask
   mask-some n = let k = some-of row rs n in record { index = k .0; within = k .1; holds = k .2 }
 
-  pub mask-names : Names rs row (rowMask rs row)
+  mask-names : Names rs row (rowMask rs row)
   unfolding rowMask
   mask-names = record {
     rules = mask-names-rules rs row;

@@ -46,7 +46,7 @@ module _ {t : TableCall} {s : Summary} (a : AcceptedSummary t s) where
   in-order = rw (a .is) (ordered (pmfOf t) (s .figures .«state_count») 25 75 (omega arith))
 
   -- a record can be made of it
-  pub summary-plottable : Plottable s
+  summary-plottable : Plottable s
   summary-plottable = record { mean = mean-fits; error = a .error-most; ordered = in-order }
 
   -- which shows it exactly

@@ -32,7 +32,7 @@ module _ {A : Type 0} (a : Automaton A) (weight : ℕ → ℕ) where
       each signal w = sequences-none (a .zones) n _ (λ q k i. refl) ∙ sym (mul-zero w)
 
   -- a step back of a sum, one part with a factor
-  pub stepBack-linear : (f g : A → ℕ) (k : ℕ) (s : A) → stepBack a weight (λ t. f t + g t * k) s ≡ stepBack a weight f s + stepBack a weight g s * k
+  stepBack-linear : (f g : A → ℕ) (k : ℕ) (s : A) → stepBack a weight (λ t. f t + g t * k) s ≡ stepBack a weight f s + stepBack a weight g s * k
   unfolding stepBack
   stepBack-linear f g k s =
       sum-cong (a .zones) _ _ (λ z l. each (a .move s z) (weight z))
@@ -44,7 +44,7 @@ module _ {A : Type 0} (a : Automaton A) (weight : ℕ → ℕ) where
       each signal w = omega arith
 
   -- a step back of nothing
-  pub stepBack-none : (s : A) → stepBack a weight (λ t. 0) s ≡ 0
+  stepBack-none : (s : A) → stepBack a weight (λ t. 0) s ≡ 0
   unfolding stepBack
   stepBack-none s = sum-none (a .zones) _ (λ z l. each (a .move s z) (weight z))
     where

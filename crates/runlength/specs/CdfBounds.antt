@@ -41,7 +41,7 @@ other-part f s e u w p r t k m = omega (arith, ap (λ x. x * w) t, mul-le-mul-ri
 
 module _ (c : Chain) (proper : Proper c) where
   -- a power of the base is positive
-  pub base-pow-pos : (n : ℕ) → 0 < c .base ^ n
+  base-pow-pos : (n : ℕ) → 0 < c .base ^ n
   base-pow-pos n = one-le-pow n (c .base) (proper .base-pos)
 
   -- the table's survival is never more than the exact one
@@ -51,7 +51,7 @@ module _ (c : Chain) (proper : Proper c) where
       rw (survival-of-units c proper n) (sum-scale (c .size) (units c n) (exactUnits c n) (c .base ^ n) (c .whole) (λ s l. units-lower c n s))
 
   -- one point more of the exact cdf: what the unrounded units signal
-  pub exactCdf-step : (n : ℕ)
+  exactCdf-step : (n : ℕ)
       → exactCdf (c .automaton) (c .weight) (suc n) ≡ exactCdf (c .automaton) (c .weight) n * c .base + signalled c (exactUnits c n)
   unfolding exactUnits
   exactCdf-step n =
@@ -74,7 +74,7 @@ module _ (c : Chain) (proper : Proper c) where
       ))
 
   -- the exact cdf is more than the table's by at most one unit for each state and point
-  pub cdf-upper : (n : ℕ) → exactCdf (c .automaton) (c .weight) n * c .whole ≤ (cdf c n + n * c .size) * c .base ^ n
+  cdf-upper : (n : ℕ) → exactCdf (c .automaton) (c .weight) n * c .whole ≤ (cdf c n + n * c .size) * c .base ^ n
   cdf-upper n =
       other-part _ (cdf c n) _ (survival c n) (c .whole) (c .base ^ n) (n * c .size)
       (cdf-survival-total (c .automaton) (c .weight) (c .base) (proper .weights) n)

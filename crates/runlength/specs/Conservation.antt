@@ -16,7 +16,7 @@ module _ (c : Chain) (proper : Proper c) where
   survival-start = sum-pick (c .size) (c .automaton .start) (c .whole) (proper .start-in)
 
   -- a point loses at most one unit for each state
-  pub survival-loss : (n : ℕ) → survival c n ≤ survival c (suc n) + pmf c (suc n) + c .size
+  survival-loss : (n : ℕ) → survival c n ≤ survival c (suc n) + pmf c (suc n) + c .size
   unfolding survival units pmf
   survival-loss n =
       let r : survival c n < survival c (suc n) + pmf c (suc n) + c .size + 1 =
@@ -30,7 +30,7 @@ module _ (c : Chain) (proper : Proper c) where
       in omega arith
 
   -- a point makes nothing: what survives it and what it signals is at most what survived before
-  pub survival-falls : (n : ℕ) → survival c (suc n) + pmf c (suc n) ≤ survival c n
+  survival-falls : (n : ℕ) → survival c (suc n) + pmf c (suc n) ≤ survival c n
   unfolding survival units pmf
   survival-falls n =
       le-of-mul-le-mul-right {k = c .base}

@@ -57,7 +57,7 @@ least-none f h e = go (rw e at (least-is f h))
     go r = r
 
 -- a number that is reached has a percentile at or below it
-pub percentile-exists : (reached : ℕ → Bool) (u : ℕ) → 1 ≤ u → T (reached u) → (n : ℕ) × Percentile reached n × (n ≤ u)
+percentile-exists : (reached : ℕ → Bool) (u : ℕ) → 1 ≤ u → T (reached u) → (n : ℕ) × Percentile reached n × (n ≤ u)
 unfolding LeastIn
 percentile-exists reached u a t = go (least reached u) (least-is reached u)
   where

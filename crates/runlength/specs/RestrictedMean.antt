@@ -23,7 +23,7 @@ twice-triangle zero = refl
 twice-triangle (suc h) = let e : suc h - 1 ≡ h = omega arith in rw e (omega (arith, triangle h))
 
 -- the error bound is one unit for each state and each point before, at each of the points 0 to h - 1
-pub meanErrorBound-sum : (c : Chain) (h : ℕ) → meanErrorBound c h ≡ sum h (λ n. n * c .size)
+meanErrorBound-sum : (c : Chain) (h : ℕ) → meanErrorBound c h ≡ sum h (λ n. n * c .size)
 unfolding meanErrorBound
 meanErrorBound-sum c h =
     div-eq-of-eq-mul-left (omega arith)

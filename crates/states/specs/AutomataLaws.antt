@@ -57,7 +57,7 @@ module _ (rs : List Rule) (bounds : AllInBounds rs) where
   row-kept row s p z = rw (p .is, move-of-row rs bounds row z) (same-mask (z ∷ row) (eqb (rowMask rs (z ∷ row)) 0))
 
   -- the state moves as the row that it is the state of
-  pub row-simulation : Simulation (referenceAutomaton rs) (stateAutomaton rs) (OfRow rs)
+  row-simulation : Simulation (referenceAutomaton rs) (stateAutomaton rs) (OfRow rs)
   row-simulation = record { same-zones = refl; kept = λ row s p z h. row-kept row s p z }
 
   -- the plain chart and the chart by its state first signal on the same sequences

@@ -56,11 +56,11 @@ pigeonhole (suc n) f ys m d =
 
 module _ (a : Automaton ℕ) where
   -- the states found are different ones that are met
-  pub states-different : DifferentMet a (states a)
+  states-different : DifferentMet a (states a)
   states-different = record { distinct = states-distinct a; all-met = states-met a }
 
   -- where at most `maxStates` are found, no list of different states that are met is longer
-  pub states-greatest : length (states a) ≤ maxStates → (xs : List ℕ) → DifferentMet a xs → length xs ≤ length (states a)
+  states-greatest : length (states a) ≤ maxStates → (xs : List ℕ) → DifferentMet a xs → length xs ≤ length (states a)
   states-greatest few xs d =
       pigeonhole (length xs) (λ i. getD xs i 0) (states a)
       (λ i h. let p = states-all a few .place (getD xs i 0) (d .all-met .met i h) in at-mem (states a) (p .0) (getD xs i 0) (p .1 .below) (p .1 .is))

@@ -112,11 +112,11 @@ snoc-distinct f t d fresh = record {
 
 -- ---- the search for a place, from the index i on
 
-pub place-hit : (t : ℕ) (xs : List ℕ) (i : ℕ) → i < length xs → getD xs i 0 ≡ t → placeOf t (drop i xs) ≡ 0
+place-hit : (t : ℕ) (xs : List ℕ) (i : ℕ) → i < length xs → getD xs i 0 ≡ t → placeOf t (drop i xs) ≡ 0
 unfolding placeOf
 place-hit t xs i h e = rw (drop-cons xs i 0 h, eq-eqb _ _ e)
 
-pub place-miss : (t : ℕ) (xs : List ℕ) (i : ℕ) → i < length xs → (getD xs i 0 ≡ t → ⊥)
+place-miss : (t : ℕ) (xs : List ℕ) (i : ℕ) → i < length xs → (getD xs i 0 ≡ t → ⊥)
     → placeOf t (drop i xs) ≡ suc (placeOf t (drop (suc i) xs))
 unfolding placeOf
 place-miss t xs i h e = rw (drop-cons xs i 0 h, ne-eqb _ _ e)

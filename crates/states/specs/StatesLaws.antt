@@ -43,13 +43,13 @@ module _ (a : Automaton ℕ) where
   states-met = explored-sound .all-met
 
   -- each entry is that of its move
-  pub moves-right : Right a (states a) (moves a)
+  moves-right : Right a (states a) (moves a)
   unfolding states moves
   moves-right = explored-sound .right
 
   module _ (few : length (states a) ≤ maxStates) where
     -- each state has all its moves
-    pub moves-length : length (moves a) ≡ a .zones * length (states a)
+    moves-length : length (moves a) ≡ a .zones * length (states a)
     unfolding states moves
     moves-length = explored-full a few
 

@@ -33,7 +33,7 @@ brackets-accepted {t} {f} a p low high = record {
   total = rw (a .pmf-length, a .pmf-cdf (t .horizon) (le-refl (t .horizon))) (a .total);
 }
 
-pub table-summarizable : {t : TableCall} {f : TableFigures} → AcceptedTable t f → Summarizable (pmfOf t) (f .«state_count») (t .horizon)
+table-summarizable : {t : TableCall} {f : TableFigures} → AcceptedTable t f → Summarizable (pmfOf t) (f .«state_count») (t .horizon)
 table-summarizable a = record {
   few = a .few-states;
   some-horizon = a .chart .some-horizon;

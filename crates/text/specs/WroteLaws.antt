@@ -20,10 +20,10 @@ module _ {a : List ℕ} {i : ℕ} {b : List ℕ} {r : ℕ} {bytes : List ℕ} (u
   front-length : length (take i a ++ bytes) ≡ r
   front-length = rw (length-append, length-take-le i a (omega arith)) (sym (u .end))
 
-  pub wrote-front : take r b ≡ take i a ++ bytes
+  wrote-front : take r b ≡ take i a ++ bytes
   wrote-front = rw (u .whole) (take-at _ _ r front-length)
 
-  pub wrote-behind : drop r b ≡ drop r a
+  wrote-behind : drop r b ≡ drop r a
   wrote-behind = rw (u .whole, drop-at _ _ r front-length, u .end)
 
   pub wrote-length : length b ≡ length a
