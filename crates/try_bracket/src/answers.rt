@@ -1,34 +1,45 @@
 // Printing a bracket.
 use bracket::BracketAnswer;
 use bracket::Place;
+use bracket::percentile_bracket;
+use libc::STDOUT_FILENO;
+
+pub fn decimal(n: u64) {
+    io::print_decimal(STDOUT_FILENO, n);
+}
+
+fn between(low: u32, high: u32) {
+    show::number(b" between ", low as u64);
+    show::number(b" and ", high as u64);
+}
 
 fn place(p: Place) {
     match p {
-        Place::At(n) => {
-            show::number(b" at ", n as u64);
-        }
-        Place::Between { low, high } => {
-            show::number(b" between ", low as u64);
-            show::number(b" and ", high as u64);
-        }
-        Place::Open(n) => {
-            show::number(b" open from ", n as u64);
-        }
-        Place::Beyond(n) => {
-            show::number(b" beyond ", n as u64);
-        }
+        Place::At(n) => show::number(b" at ", n as u64),
+        Place::Between { low, high } => between(low, high),
+        Place::Open(n) => show::number(b" open from ", n as u64),
+        Place::Beyond(n) => show::number(b" beyond ", n as u64),
     }
+}
+
+fn accepted(p: Place) {
+    place(p);
     show::text(b"\n");
 }
 
 pub fn answer(a: BracketAnswer) {
     match a {
         BracketAnswer::Refused(r) => show::refusal(r),
-        BracketAnswer::Accepted(p) => place(p),
+        BracketAnswer::Accepted(p) => accepted(p),
     }
 }
 
-pub fn bracket_of(name: &[u8], pmf: &[u64], states: u32, percent: u32) {
-    show::text(name);
-    answer(bracket::percentile_bracket(pmf, states, percent));
+// The bracket of a list of one chance.
+pub fn one(states: u32, percent: u32, chance: u64) {
+    answer(percentile_bracket(&[chance], states, percent));
+}
+
+// The bracket of a list of two chances.
+pub fn two(states: u32, percent: u32, first: u64, second: u64) {
+    answer(percentile_bracket(&[first, second], states, percent));
 }

@@ -6,12 +6,8 @@ mod refusals;
 mod tables;
 
 fn main() {
-    show::text(b"short lists\n");
     lists::short_lists();
-    show::text(b"refusals\n");
     refusals::refusals();
-    show::text(b"the listing\n");
     tables::listing();
-    show::text(b"Western Electric in control, 400 points\n");
     tables::western_electric();
 }

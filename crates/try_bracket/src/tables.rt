@@ -7,7 +7,7 @@ use table::TableAnswer;
 
 fn every_percent(pmf: &[u64], states: u32) {
     for p in 1..100 {
-        show::number(b"", p as u64);
+        answers::decimal(p as u64);
         answers::answer(bracket::percentile_bracket(pmf, states, p));
     }
 }
@@ -19,7 +19,7 @@ fn states_of(a: TableAnswer) -> u32 {
     }
 }
 
-pub fn listing() {
+fn one_rule() -> RuleList {
     let mut rules = [Rule {
         k: 0,
         m: 0,
@@ -30,14 +30,16 @@ pub fn listing() {
         m: 2,
         zones: 2,
     };
-    let mut weights = [0u32; ZONES];
-    weights[1] = 536870912;
-    weights[4] = 536870912;
+    RuleList { rules, len: 1 }
+}
+
+pub fn listing() {
+    show::text(b"the listing\n");
     let mut pmf = [0u64; 4];
     let mut survival = [0u64; 4];
     let answer = table::run_length_table(
-        RuleList { rules, len: 1 },
-        weights,
+        one_rule(),
+        [0, 536870912, 0, 0, 536870912, 0, 0],
         4,
         &mut pmf,
         &mut survival,
@@ -46,20 +48,25 @@ pub fn listing() {
 }
 
 // The normal area of each zone in units of 2^-30, to the nearest; S is what is missing from 2^30.
+fn in_control() -> [u32; ZONES] {
+    [
+        2898884,
+        22978326,
+        145927014,
+        366516130,
+        366516130,
+        145927014,
+        22978326,
+    ]
+}
+
 pub fn western_electric() {
-    let mut weights = [0u32; ZONES];
-    weights[0] = 2898884;
-    weights[1] = 22978326;
-    weights[2] = 145927014;
-    weights[3] = 366516130;
-    weights[4] = 366516130;
-    weights[5] = 145927014;
-    weights[6] = 22978326;
+    show::text(b"Western Electric in control, 400 points\n");
     let mut pmf = [0u64; 400];
     let mut survival = [0u64; 400];
     let answer = table::run_length_table(
         RuleList::western_electric(),
-        weights,
+        in_control(),
         400,
         &mut pmf,
         &mut survival,

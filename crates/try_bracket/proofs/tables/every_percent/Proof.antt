@@ -6,26 +6,23 @@ use Rattle.try_bracket.proofs.tables.every_percent.Tie as tie
 use Rattle.try_bracket.proofs.tables.every_percent.Reads as reads
 use Rattle.try_bracket.proofs.tables.every_percent.Lts as lts
 use Rattle.bracket.proofs.percentile_bracket.Reads as percentile-bracket-reads
-use Rattle.show.proofs.number.Reads as number-reads
 use Rattle.try_bracket.proofs.answers.answer.Reads as answer-reads
+use Rattle.try_bracket.proofs.answers.decimal.Reads as decimal-reads
 
 abbrev Inv-loop : tie.InvT-loop
-Inv-loop pmf states p₀ t4 p = p ≤ 100
+Inv-loop pmf states p₀ p = p ≤ 100
 
 abbrev μ-loop : tie.MeasureT-loop
-μ-loop pmf states p₀ t4 p = 100 - p
+μ-loop pmf states p₀ p = 100 - p
 
 loop-holds : tie.Need-loop-holds Inv-loop μ-loop
 loop-holds c = search needs
 
-slice-aggregate-number : tie.Need-slice-aggregate-number Inv-loop μ-loop
-slice-aggregate-number c = search needs
+cast-decimal : tie.Need-cast-decimal Inv-loop μ-loop
+cast-decimal c = search needs
 
-cast-number : tie.Need-cast-number Inv-loop μ-loop
-cast-number c = search needs
-
-number-requires : tie.Need-number-requires Inv-loop μ-loop
-number-requires c κs = search needs
+decimal-requires : tie.Need-decimal-requires Inv-loop μ-loop
+decimal-requires c κs = search needs
 
 percentile-bracket-requires : tie.Need-percentile-bracket-requires Inv-loop μ-loop
 percentile-bracket-requires c κs = search needs
@@ -52,9 +49,8 @@ every-percent-spec =
     Inv-loop
     μ-loop
     loop-holds
-    slice-aggregate-number
-    cast-number
-    number-requires
+    cast-decimal
+    decimal-requires
     percentile-bracket-requires
     answer-requires
     add-p
