@@ -1,11 +1,12 @@
--- CLAIMS: the code of every exported function decodes. For every call it is 0 exactly where the operation accepts, and else has the number
--- and the place of the operation's refusal, which is one of the function's own numbers and no other.
-use Prim.Native.Nat.{ℕ}
+-- CLAIMS: the code of every exported function decodes. Of every call that meets its function's contract, as each call does: the code is 0 exactly
+-- where the operation accepts, and else has the number and the place of its refusal, which is one of the function's own numbers and no other.
+use Prim.Native.Nat.{ℕ, _≤_}
 use mathlib.Core.Path.{_≡_, refl, ap, _∙_}
 use mathlib.Core.List.{List}
 use native.Mathlib.Omega.{arith}
 use mathlib.Core.Bool.{Bool, true, false, cond}
 use lib.Dec.{eqb}
+use lib.Ieee.{Float}
 use lib.IntN.{ℤ}
 use borrow.Author.Tests.{ne-eqb}
 use Rattle.rules.specs.declared.RuleList.{RuleList}
@@ -34,49 +35,47 @@ use Rattle.report.specs.MonitorReport.{monitorPrinted}
 use Rattle.print.specs.Refused.{refusedLine}
 use Rattle.capi.specs.Codes.{codeOf}
 use Rattle.capi.specs.ListCall.{checkCode}
-use Rattle.capi.specs.MonitorCall.{zoneCode, stepCode}
-use Rattle.capi.specs.BatchCall.{batchCode}
-use Rattle.capi.specs.TableCall.{tableCode}
-use Rattle.capi.specs.BracketCall.{bracketCode}
-use Rattle.capi.specs.PlotCall.{plotCode}
-use Rattle.capi.specs.ReportCall.{printedCode}
+use Rattle.capi.specs.MonitorCall.{zoneCode, stepCode, ZoneCall, StepCall}
+use Rattle.capi.specs.BatchCall.{batchCode, BatchCall}
+use Rattle.capi.specs.TableCall.{tableCode, TableCalled}
+use Rattle.capi.specs.BracketCall.{bracketCode, BracketCalled}
+use Rattle.capi.specs.PlotCall.{plotCode, PlotCalled}
+use Rattle.capi.specs.ReportCall.{printedCode, ReportCall}
 use Rattle.program_claims.specs.PrintedOnce.{tableNumbers, monitorNumbers, table-refusals, monitor-refusals}
 use Rattle.program_claims.specs.Coded.{Coded, zoneChecked, stepChecked, bracketChecked, printedChecked}
 use Rattle.program_claims.specs.Coded.{zoneNumbers, stepNumbers, batchNumbers, listNumbers, bracketNumbers}
 use Rattle.program_claims.specs.CodedLaws.{allFit, coded, zone-number, step-number, batch-number, table-number, bracket-number, table-coded, plot-coded}
 
--- `catrovindy_check`
-pub check-code : (l : RuleList) → Coded ruleNumbers (checkOf l) (checkCode (checkOf l))
-unfolding allFit
-check-code l = coded ruleNumbers (checkOf l) _ refl (list-number l) refl
+-- ---- what each code says, by the definition that the contract is an equation with
 
--- `catrovindy_zone`
-pub zone-code : (reading centre : ℤ) (sigma : ℕ)
+check-says : (l : RuleList) → Coded ruleNumbers (checkOf l) (checkCode (checkOf l))
+unfolding allFit
+check-says l = coded ruleNumbers (checkOf l) _ refl (list-number l) refl
+
+zone-says : (reading centre : ℤ) (sigma : ℕ)
     → Coded zoneNumbers (zoneChecked (zoneOf reading centre sigma)) (zoneCode (zoneOf reading centre sigma))
 unfolding allFit
-zone-code reading centre sigma =
+zone-says reading centre sigma =
     coded zoneNumbers (zoneChecked (zoneOf reading centre sigma)) _ refl (zone-number reading centre sigma) (same (zoneOf reading centre sigma))
   where
     same : (a : ZoneAnswer) → zoneCode a ≡ checkCode (zoneChecked a)
     same (ZoneAnswer.Zone z) = refl
     same (ZoneAnswer.Refused x) = refl
 
--- `catrovindy_step`
-pub step-code : (l : RuleList) (m : Monitor) (z : ℕ) → Coded stepNumbers (stepChecked (stepOf l m z)) (stepCode (stepOf l m z))
+step-says : (l : RuleList) (m : Monitor) (z : ℕ) → Coded stepNumbers (stepChecked (stepOf l m z)) (stepCode (stepOf l m z))
 unfolding allFit
-step-code l m z = coded stepNumbers (stepChecked (stepOf l m z)) _ refl (step-number l m z) (same (stepOf l m z))
+step-says l m z = coded stepNumbers (stepChecked (stepOf l m z)) _ refl (step-number l m z) (same (stepOf l m z))
   where
     same : (a : Step) → stepCode a ≡ checkCode (stepChecked a)
     same (Step.Quiet count next) = refl
     same (Step.Signal count mask next) = refl
     same (Step.Refused x) = refl
 
--- `catrovindy_batch`: it is refused exactly as any first reading would be, also where there is none; so once a reading was taken the code is 0,
--- and never 7.
-pub batch-code : (l : RuleList) (m : Monitor) (centre : ℤ) (sigma : ℕ) (xs : List ℤ)
+-- a batch is refused exactly as any first reading would be, also where there is none
+batch-says : (l : RuleList) (m : Monitor) (centre : ℤ) (sigma : ℕ) (xs : List ℤ)
     → Coded batchNumbers (readingCheck l m sigma) (batchCode (batchOf l m centre sigma xs))
 unfolding allFit
-batch-code l m centre sigma xs = coded batchNumbers (readingCheck l m sigma) _ refl (batch-number l m sigma) (same (readingCheck l m sigma) refl)
+batch-says l m centre sigma xs = coded batchNumbers (readingCheck l m sigma) _ refl (batch-number l m sigma) (same (readingCheck l m sigma) refl)
   where
     ended : (b : Batch) → Ends b → batchCode b ≡ 0
     ended b (unrefused e) = go (eqb (b .taken) 0)
@@ -90,19 +89,17 @@ batch-code l m centre sigma xs = coded batchNumbers (readingCheck l m sigma) _ r
     same Accepted e = ended (batchOf l m centre sigma xs) (batch-ends l centre sigma m xs e)
     same (Refused x) e = ap batchCode (batch-refused l m centre sigma xs x e)
 
--- `catrovindy_table` and `catrovindy_plot`
-pub table-code : (t : TableCall) → Coded listNumbers (tableCheck t) (tableCode (tableOf t .answer))
+table-says : (t : TableCall) → Coded listNumbers (tableCheck t) (tableCode (tableOf t .answer))
 unfolding allFit
-table-code t = coded listNumbers (tableCheck t) _ refl (table-number t) (table-coded t)
+table-says t = coded listNumbers (tableCheck t) _ refl (table-number t) (table-coded t)
 
-pub plot-code : (t : TableCall) → Coded listNumbers (tableCheck t) (plotCode (boxPlotOf t .answer))
+plot-says : (t : TableCall) → Coded listNumbers (tableCheck t) (plotCode (boxPlotOf t .answer))
 unfolding allFit
-plot-code t = coded listNumbers (tableCheck t) _ refl (table-number t) (plot-coded t ∙ table-coded t)
+plot-says t = coded listNumbers (tableCheck t) _ refl (table-number t) (plot-coded t ∙ table-coded t)
 
--- `catrovindy_bracket`
-pub bracket-code : (pmf : List ℕ) (count p : ℕ) → Coded bracketNumbers (bracketChecked (bracketOf pmf count p)) (bracketCode (bracketOf pmf count p))
+bracket-says : (pmf : List ℕ) (count p : ℕ) → Coded bracketNumbers (bracketChecked (bracketOf pmf count p)) (bracketCode (bracketOf pmf count p))
 unfolding allFit
-bracket-code pmf count p = coded bracketNumbers (bracketChecked (bracketOf pmf count p)) _ refl (bracket-number pmf count p) (same (bracketOf pmf count p))
+bracket-says pmf count p = coded bracketNumbers (bracketChecked (bracketOf pmf count p)) _ refl (bracket-number pmf count p) (same (bracketOf pmf count p))
   where
     same : (a : BracketAnswer) → bracketCode a ≡ checkCode (bracketChecked a)
     same (BracketAnswer.Accepted place) = refl
@@ -119,14 +116,64 @@ unfolding printedBytes
 printed-number (lines bytes) ns f x e = not-both x e
 printed-number (refusedBy y) ns f x e = let same : y ≡ x = cc in rw (← same) (f (y .number) (y .place) refl)
 
--- `catrovindy_table_report`
-pub table-report-code : (s : List ℕ) → Coded tableNumbers (printedChecked (tablePrinted s)) (printedCode (tablePrinted s))
+table-report-says : (s : List ℕ) → Coded tableNumbers (printedChecked (tablePrinted s)) (printedCode (tablePrinted s))
 unfolding allFit
-table-report-code s =
+table-report-says s =
     coded tableNumbers (printedChecked (tablePrinted s)) _ refl (printed-number (tablePrinted s) tableNumbers (table-refusals s)) (printed-code (tablePrinted s))
 
--- `catrovindy_monitor_report`
-pub monitor-report-code : (s : List ℕ) → Coded monitorNumbers (printedChecked (monitorPrinted s)) (printedCode (monitorPrinted s))
+monitor-report-says : (s : List ℕ) → Coded monitorNumbers (printedChecked (monitorPrinted s)) (printedCode (monitorPrinted s))
 unfolding allFit
-monitor-report-code s =
+monitor-report-says s =
     coded monitorNumbers (printedChecked (monitorPrinted s)) _ refl (printed-number (monitorPrinted s) monitorNumbers (monitor-refusals s)) (printed-code (monitorPrinted s))
+
+-- ---- the claims: of every call that meets its function's contract
+
+same-code : (numbers : List ℕ) (c : Checked) {code r : ℕ} → r ≡ code → Coded numbers c code → Coded numbers c r
+same-code numbers c e t = rw e t
+
+-- `catrovindy_check`
+pub check-code : (l : RuleList) (r : ℕ) → r ≡ checkCode (checkOf l) → Coded ruleNumbers (checkOf l) r
+check-code l r e = same-code ruleNumbers (checkOf l) e (check-says l)
+
+-- `catrovindy_zone`
+pub zone-code : {reading centre : ℤ} {sigma : ℕ} {z z′ : List ℕ} {r : ℕ} → ZoneCall reading centre sigma z z′ r
+    → Coded zoneNumbers (zoneChecked (zoneOf reading centre sigma)) r
+zone-code {reading} {centre} {sigma} call = same-code zoneNumbers (zoneChecked (zoneOf reading centre sigma)) (call .code) (zone-says reading centre sigma)
+
+-- `catrovindy_step`
+pub step-code : {l : RuleList} {m : Monitor} {z : ℕ} {s p a s′ p′ a′ : List ℕ} {r : ℕ} → StepCall l m z s p a s′ p′ a′ r
+    → Coded stepNumbers (stepChecked (stepOf l m z)) r
+step-code {l} {m} {z} call = same-code stepNumbers (stepChecked (stepOf l m z)) (call .code) (step-says l m z)
+
+-- `catrovindy_batch`: it is refused exactly as any first reading would be, also where there is none
+pub batch-code : (l : RuleList) (m : Monitor) (centre : ℤ) (sigma : ℕ) (xs : List ℤ) {s p a s′ p′ a′ : List ℕ} {r : ℕ}
+    → BatchCall (batchOf l m centre sigma xs) s p a s′ p′ a′ r → Coded batchNumbers (readingCheck l m sigma) r
+batch-code l m centre sigma xs call = same-code batchNumbers (readingCheck l m sigma) (call .code) (batch-says l m centre sigma xs)
+
+-- and never by 7, nor by anything else, once a reading was taken
+pub batch-taken-code : {b : Batch} {s p a s′ p′ a′ : List ℕ} {r : ℕ} → BatchCall b s p a s′ p′ a′ r → 1 ≤ b .taken → r ≡ 0
+batch-taken-code {b} call t = call .code ∙ rw (ne-eqb (b .taken) 0 (λ z. omega arith))
+
+-- `catrovindy_table`
+pub table-code : {t : TableCall} {f p′ s′ f′ : List ℕ} {r : ℕ} → TableCalled t f p′ s′ f′ r → Coded listNumbers (tableCheck t) r
+table-code {t} call = same-code listNumbers (tableCheck t) (call .code) (table-says t)
+
+-- `catrovindy_bracket`
+pub bracket-code : {pmf : List ℕ} {count p : ℕ} {a a′ : List ℕ} {r : ℕ} → BracketCalled pmf count p a a′ r
+    → Coded bracketNumbers (bracketChecked (bracketOf pmf count p)) r
+bracket-code {pmf} {count} {p} call = same-code bracketNumbers (bracketChecked (bracketOf pmf count p)) (call .code) (bracket-says pmf count p)
+
+-- `catrovindy_plot`
+pub plot-code : {t : TableCall} {k : List ℕ} {v : List Float} {p′ s′ k′ : List ℕ} {v′ : List Float} {r : ℕ} → PlotCalled t k v p′ s′ k′ v′ r
+    → Coded listNumbers (tableCheck t) r
+plot-code {t} call = same-code listNumbers (tableCheck t) (call .code) (plot-says t)
+
+-- `catrovindy_table_report`
+pub table-report-code : (s : List ℕ) {out count out′ count′ : List ℕ} {r : ℕ} → ReportCall (tablePrinted s) out count out′ count′ r
+    → Coded tableNumbers (printedChecked (tablePrinted s)) r
+table-report-code s call = same-code tableNumbers (printedChecked (tablePrinted s)) (call .code) (table-report-says s)
+
+-- `catrovindy_monitor_report`
+pub monitor-report-code : (s : List ℕ) {out count out′ count′ : List ℕ} {r : ℕ} → ReportCall (monitorPrinted s) out count out′ count′ r
+    → Coded monitorNumbers (printedChecked (monitorPrinted s)) r
+monitor-report-code s call = same-code monitorNumbers (printedChecked (monitorPrinted s)) (call .code) (monitor-report-says s)
