@@ -2,7 +2,6 @@
 use mathlib.Core.Path.{_≡_, refl, sym, ap, _∙_}
 use mathlib.Core.Bool.{Bool, true, false}
 use Prim.Native.Nat.{ℕ, _+_, _≤_, _<_}
-use native.Mathlib.Omega.{arith}
 use lib.Dec.{ltb}
 use lib.IntN.{ℤ, _-ℤ_}
 use borrow.Author.Tests.{lt-ltb, le-ltb, ltb-true, ltb-false}
@@ -13,6 +12,7 @@ use Rattle.rules.specs.declared.refusal.Refusal.{Refusal}
 use Rattle.rules.specs.Bounds.{maxNumber}
 use Rattle.rules.specs.Check.{within, orElse, unless, activeRules, checkOf}
 use Rattle.rules.specs.CheckLaws.{accepted}
+use Rattle.rules.specs.NumbersLaws.{not-both}
 use Rattle.rules.specs.Refusal.{badSigma, badState, badCount}
 use Rattle.monitor.specs.declared.Monitor.{Monitor}
 use Rattle.monitor.specs.declared.Step.the-variants.{Refused}
@@ -74,9 +74,6 @@ module _ (l : RuleList) (m : Monitor) (centre : ℤ) (sigma : ℕ) (x : ℤ) whe
 -- ---- what is asked before there is a reading
 
 module _ (l : RuleList) (m : Monitor) (sigma : ℕ) where
-  not-both : {A : Type 0} {y : Refusal} → _≡_ {A = Checked} Accepted (Checked.Refused y) → A
-  not-both e = let z : _≡_ {A = ℕ} 0 1 = cc in absurd (omega arith)
-
   same : {y z : Refusal} → _≡_ {A = Checked} (Checked.Refused y) (Checked.Refused z) → y ≡ z
   same e = cc
 
@@ -95,7 +92,7 @@ module _ (l : RuleList) (m : Monitor) (sigma : ℕ) where
       go Accepted ec true ef false ev n en e = reading-bad-state l m centre sigma x ec ef ev ∙ ap Refused (same e)
       go Accepted ec true ef true ev false en e =
           reading-bad-count l m centre sigma x (record { rules = ec; fits = ef; valid = ev }) (ltb-false (m .count) maxNumber en) ∙ ap Refused (same e)
-      go Accepted ec true ef true ev true en e = not-both e
+      go Accepted ec true ef true ev true en e = not-both y e
 
   -- and where it accepts, any reading is taken
   pub reading-accepted : readingCheck l m sigma ≡ Accepted → Readable l sigma m × (m .count < maxNumber)
@@ -106,10 +103,10 @@ module _ (l : RuleList) (m : Monitor) (sigma : ℕ) where
       go : (c : Checked) → checkOf l ≡ c → (f : Bool) → within minSigma maxSigma sigma ≡ f
           → (v : Bool) → validState (m .count) (activeRules l) (m .state) ≡ v → (n : Bool) → ltb (m .count) maxNumber ≡ n
           → orElse c (orElse (unless f badSigma) (orElse (unless v badState) (unless n badCount))) ≡ Accepted → Readable l sigma m × (m .count < maxNumber)
-      go (Checked.Refused z) ec f ef v ev n en e = not-both (sym e)
-      go Accepted ec false ef v ev n en e = not-both (sym e)
-      go Accepted ec true ef false ev n en e = not-both (sym e)
-      go Accepted ec true ef true ev false en e = not-both (sym e)
+      go (Checked.Refused z) ec f ef v ev n en e = not-both z (sym e)
+      go Accepted ec false ef v ev n en e = not-both badSigma (sym e)
+      go Accepted ec true ef false ev n en e = not-both badState (sym e)
+      go Accepted ec true ef true ev false en e = not-both badCount (sym e)
       go Accepted ec true ef true ev true en e =
           (record { rules = ec; fits = ef; valid = ev }, ltb-true (m .count) maxNumber en)
 

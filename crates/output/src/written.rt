@@ -34,7 +34,7 @@ fn write_more(bytes: &[u8], done: usize) -> Put
 }
 
 // Writes until all is written or a write fails, and answers whether all is.
-pub fn write_output(bytes: &[u8]) -> bool {
+pub(crate) fn write_output(bytes: &[u8]) -> bool {
     let len = bytes.len();
     let mut done = 0;
     let mut turns = MAX_WRITES;

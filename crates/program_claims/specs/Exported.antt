@@ -138,7 +138,8 @@ check-code l r e = same-code ruleNumbers (checkOf l) e (check-says l)
 -- `catrovindy_zone`
 pub zone-code : {reading centre : ℤ} {sigma : ℕ} {z z′ : List ℕ} {r : ℕ} → ZoneCall reading centre sigma z z′ r
     → Coded zoneNumbers (zoneChecked (zoneOf reading centre sigma)) r
-zone-code {reading} {centre} {sigma} call = same-code zoneNumbers (zoneChecked (zoneOf reading centre sigma)) (call .code) (zone-says reading centre sigma)
+zone-code {reading} {centre} {sigma} call =
+    same-code zoneNumbers (zoneChecked (zoneOf reading centre sigma)) (call .code) (zone-says reading centre sigma)
 
 -- `catrovindy_step`
 pub step-code : {l : RuleList} {m : Monitor} {z : ℕ} {s p a s′ p′ a′ : List ℕ} {r : ℕ} → StepCall l m z s p a s′ p′ a′ r
@@ -148,7 +149,8 @@ step-code {l} {m} {z} call = same-code stepNumbers (stepChecked (stepOf l m z)) 
 -- `catrovindy_batch`: it is refused exactly as any first reading would be, also where there is none
 pub batch-code : (l : RuleList) (m : Monitor) (centre : ℤ) (sigma : ℕ) (xs : List ℤ) {s p a s′ p′ a′ : List ℕ} {r : ℕ}
     → BatchCall (batchOf l m centre sigma xs) s p a s′ p′ a′ r → Coded batchNumbers (readingCheck l m sigma) r
-batch-code l m centre sigma xs call = same-code batchNumbers (readingCheck l m sigma) (call .code) (batch-says l m centre sigma xs)
+batch-code l m centre sigma xs call =
+    same-code batchNumbers (readingCheck l m sigma) (call .code) (batch-says l m centre sigma xs)
 
 -- and never by 7, nor by anything else, once a reading was taken
 pub batch-taken-code : {b : Batch} {s p a s′ p′ a′ : List ℕ} {r : ℕ} → BatchCall b s p a s′ p′ a′ r → 1 ≤ b .taken → r ≡ 0
@@ -161,7 +163,8 @@ table-code {t} call = same-code listNumbers (tableCheck t) (call .code) (table-s
 -- `catrovindy_bracket`
 pub bracket-code : {pmf : List ℕ} {count p : ℕ} {a a′ : List ℕ} {r : ℕ} → BracketCalled pmf count p a a′ r
     → Coded bracketNumbers (bracketChecked (bracketOf pmf count p)) r
-bracket-code {pmf} {count} {p} call = same-code bracketNumbers (bracketChecked (bracketOf pmf count p)) (call .code) (bracket-says pmf count p)
+bracket-code {pmf} {count} {p} call =
+    same-code bracketNumbers (bracketChecked (bracketOf pmf count p)) (call .code) (bracket-says pmf count p)
 
 -- `catrovindy_plot`
 pub plot-code : {t : TableCall} {k : List ℕ} {v : List Float} {p′ s′ k′ : List ℕ} {v′ : List Float} {r : ℕ} → PlotCalled t k v p′ s′ k′ v′ r

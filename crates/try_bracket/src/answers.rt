@@ -35,8 +35,8 @@ pub fn answer(a: BracketAnswer) {
 }
 
 // The bracket of a list of one chance.
-pub fn one(states: u32, percent: u32, chance: u64) {
-    answer(percentile_bracket(&[chance], states, percent));
+pub fn one(states: u32, percent: u32, pmf: u64) {
+    answer(percentile_bracket(&[pmf], states, percent));
 }
 
 // The bracket of a list of two chances.

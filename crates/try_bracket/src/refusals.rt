@@ -3,9 +3,9 @@ use crate::answers;
 use bracket::percentile_bracket;
 use show::text;
 
-fn list(name: &[u8], chances: &[u64]) {
+fn list(name: &[u8], pmf: &[u64]) {
     text(name);
-    answers::answer(percentile_bracket(chances, 1, 50));
+    answers::answer(percentile_bracket(pmf, 1, 50));
 }
 
 fn of_lengths() {
