@@ -1,7 +1,7 @@
 /*
  * The edges of the calls from C and C++: lists of length 0 that are null, a batch of no readings, a full count, a plot record that is
- * refused. Every exported function with a list is reached by way of __wrap_..., see build.sh, which looks whether a null pointer gets there.
- * Prints what is wrong, and nothing where nothing is.
+ * refused, the last zone. Every exported function with a list is reached by way of __wrap_..., see build.sh, which looks whether a null
+ * pointer gets there. Prints what is wrong, and nothing where nothing is.
  */
 #include "catrovindy.h"
 
@@ -78,7 +78,7 @@ uint64_t __wrap_catrovindy_monitor_report(const uint8_t *text, size_t length, ui
 
 static const uint32_t rules[CATROVINDY_SLOTS] = CATROVINDY_DUNCAN;
 static const uint32_t rule_count = CATROVINDY_DUNCAN_COUNT;
-static const uint32_t weights[CATROVINDY_ZONES] = {CATROVINDY_WEIGHT_TOTAL, 0, 0, 0, 0, 0, 0};
+static const uint32_t weights[CATROVINDY_ZONES] = {CATROVINDY_WEIGHT_TOTAL, 0, 0, 0, 0, 0, 0, 0};
 static const int32_t quiet[5] = {0, 0, 0, 0, 0};
 static uint8_t table_lines[CATROVINDY_TABLE_SIZE], monitor_lines[CATROVINDY_MONITOR_SIZE];
 
@@ -142,11 +142,26 @@ static void plot_record(void) {
     require(plot.lower <= 1 && plot.upper >= 1 && plot.has_iqr == 1 && plot.iqr == 0, "the mean is 1, and the range 0");
 }
 
+/* The last zone is the centre itself. A point there counts for neither side, and there is no zone after it. */
+static void last_zone(void) {
+    static const uint32_t eight[CATROVINDY_SLOTS] = {8, 8, CATROVINDY_SET_ABOVE, 1, 9, CATROVINDY_ALL_ZONES + 1};
+    static const int32_t readings[13] = {101, 101, 101, 101, 100, 101, 101, 101, 101, 101, 101, 101, 101};
+    uint64_t state = 0, answer[CATROVINDY_BATCH_ANSWER];
+    uint32_t points = 0, zone = 0, step[CATROVINDY_STEP_ANSWER];
+    require(catrovindy_zone(100, 100, 10, &zone) == CATROVINDY_ACCEPTED && zone == CATROVINDY_ZONE_C0, "100 on the centre 100 is in C0");
+    require(catrovindy_batch(eight, 1, &state, &points, 100, 10, readings, 13, answer) == CATROVINDY_ACCEPTED, "13 readings are accepted");
+    require(answer[CATROVINDY_BATCH_TAKEN] == 13 && answer[CATROVINDY_BATCH_MASK] == 1, "eight in a row above do not go over the centre");
+    require(catrovindy_step(eight, 1, &state, &points, CATROVINDY_ZONES - 1, step) == CATROVINDY_ACCEPTED, "the last zone is accepted");
+    require(refused(catrovindy_step(eight, 1, &state, &points, CATROVINDY_ZONES, step), CATROVINDY_BAD_ZONE, 0), "6 for a zone after it");
+    require(refused(catrovindy_check(eight, 2), CATROVINDY_BAD_ZONE_SET, 1), "4 for a set of a zone after it");
+}
+
 int main(void) {
     require(catrovindy_version() == CATROVINDY_VERSION_NUMBER, "the library belongs to the header");
     null_lists();
     no_readings();
     full_count();
     plot_record();
+    last_zone();
     return failed;
 }

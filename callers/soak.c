@@ -17,8 +17,11 @@
 static const uint32_t rules[CATROVINDY_SLOTS] = CATROVINDY_WESTERN_ELECTRIC;
 static const uint32_t rule_count = CATROVINDY_WESTERN_ELECTRIC_COUNT;
 
-/* A normal reading on a chart with the right centre and sigma: the chance of each zone, S A1 B1 C1 C2 B2 A2, in units of 2^-30. */
-static const uint32_t in_control[CATROVINDY_ZONES] = {2898884, 22978326, 145927014, 366516130, 366516130, 145927014, 22978326};
+/*
+ * A normal reading on a chart with the right centre and sigma: the chance of each zone, S A1 B1 C1 C2 B2 A2 C0, in units of 2^-30. C0 is the
+ * centre itself, on which such a reading never lies.
+ */
+static const uint32_t in_control[CATROVINDY_ZONES] = {2898884, 22978326, 145927014, 366516130, 366516130, 145927014, 22978326, 0};
 
 static const uint32_t percents[5] = {5, 25, 50, 75, 95};
 
@@ -26,7 +29,7 @@ static const uint32_t percents[5] = {5, 25, 50, 75, 95};
 static const int32_t readings[READINGS] = {50129, 49755, 50437, 49835, 49557, 50333, 50127, 50230, 49745, 50137, 49801, 49636, 50160, 50616,
                                            50516, 51024, 50704, 50187, 50515, 50073, 50419, 50105, 50028, 50229, 50866, 49909, 50543, 50515};
 
-static const char table_text[] = "weights,0,536870912,0,0,536870912,0,0\nrule,2,2,2\nhorizon,4\n";
+static const char table_text[] = "weights,0,536870912,0,0,536870912,0,0,0\nrule,2,2,2\nhorizon,4\n";
 static const char monitor_text[] = "chart,100,10\nrule,1,1,1\nrule,2,3,2\npoint,121\npoint,100\npoint,121\npoint,131\n";
 
 /* The lists of the table, and the buffers of the reports: too large for some stacks. */
@@ -158,7 +161,7 @@ static void refusal(void) {
     uint64_t lent_before[2][3], figures_before[CATROVINDY_FIGURES];
     memcpy(lent_before, lent, sizeof lent);
     memcpy(figures_before, figures, sizeof figures);
-    wrong[5] = 128;
+    wrong[5] = 256;
     uint64_t code = catrovindy_table(wrong, rule_count, in_control, 3, lent[0], 3, lent[1], 3, figures);
     int kept = memcmp(lent, lent_before, sizeof lent) == 0 && memcmp(figures, figures_before, sizeof figures) == 0;
     printf("refused,%" PRIu32 ",%" PRIu32 ",%s\n", catrovindy_number(code), catrovindy_place(code), kept ? "kept" : "altered");

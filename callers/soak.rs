@@ -10,8 +10,9 @@ const SIGMA: u32 = 400;
 
 const RULES: RuleList = RuleList::western_electric();
 
-/// A normal reading on a chart with the right centre and sigma: the chance of each zone, S A1 B1 C1 C2 B2 A2, in units of 2^-30.
-const IN_CONTROL: Weights = [2_898_884, 22_978_326, 145_927_014, 366_516_130, 366_516_130, 145_927_014, 22_978_326];
+/// A normal reading on a chart with the right centre and sigma: the chance of each zone, S A1 B1 C1 C2 B2 A2 C0, in units of 2^-30. C0 is
+/// the centre itself, on which such a reading never lies.
+const IN_CONTROL: Weights = [2_898_884, 22_978_326, 145_927_014, 366_516_130, 366_516_130, 145_927_014, 22_978_326, 0];
 
 const PERCENTS: [u32; 5] = [5, 25, 50, 75, 95];
 
@@ -21,7 +22,7 @@ const READINGS: [i32; 28] = [
     50073, 50419, 50105, 50028, 50229, 50866, 49909, 50543, 50515,
 ];
 
-const TABLE_TEXT: &[u8] = b"weights,0,536870912,0,0,536870912,0,0\nrule,2,2,2\nhorizon,4\n";
+const TABLE_TEXT: &[u8] = b"weights,0,536870912,0,0,536870912,0,0,0\nrule,2,2,2\nhorizon,4\n";
 const MONITOR_TEXT: &[u8] = b"chart,100,10\nrule,1,1,1\nrule,2,3,2\npoint,121\npoint,100\npoint,121\npoint,131\n";
 
 /// Before all else: does the library belong to the crate, and are the rules accepted?
@@ -124,7 +125,7 @@ fn both() -> Result<(), Refusal> {
 
 /// (g) A refusal: the second rule's set has a zone that does not exist. All that was lent is as it was.
 fn refusal() {
-    let wrong: RuleList = RULES.rules().enumerate().map(|(i, rule)| if i == 1 { Rule { zones: 128, ..rule } } else { rule }).collect();
+    let wrong: RuleList = RULES.rules().enumerate().map(|(i, rule)| if i == 1 { Rule { zones: 256, ..rule } } else { rule }).collect();
     let (mut pmf, mut survival) = ([7; 3], [8; 3]);
     match table(&wrong, &IN_CONTROL, 3, &mut pmf, &mut survival) {
         Ok(_) => println!("accepted"),

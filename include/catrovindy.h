@@ -4,7 +4,7 @@
  * Link with target/staticlib/libcapi.a, which `bash scripts/library.sh` writes. It needs nothing but memcpy and memset. The header is for
  * C99 and C++11, and for what came after them.
  *
- * Words. A point lies in one of seven zones by its distance from the centre. A rule k,m,Z holds where at least k of the last m points lie
+ * Words. A point lies in one of eight zones by its distance from the centre. A rule k,m,Z holds where at least k of the last m points lie
  * in the zones of Z, the sum of 2^zone; where fewer than m points exist, all of them count. A chart signals where some rule holds, and a
  * signal clears it. The run length is the number of the first point that signals. A unit is 2^-60.
  *
@@ -53,8 +53,8 @@ extern "C" {
 /* ---- The version */
 
 /* The version of this header, as text and as major * 10000 + minor * 100 + patch. The Rust crate has the same. */
-#define CATROVINDY_VERSION "0.3.0"
-#define CATROVINDY_VERSION_NUMBER 300
+#define CATROVINDY_VERSION "0.4.0"
+#define CATROVINDY_VERSION_NUMBER 400
 
 /* The version of the library, as a number: CATROVINDY_VERSION_NUMBER where the library belongs to this header. It is no code. */
 uint32_t catrovindy_version(void);
@@ -64,8 +64,8 @@ uint32_t catrovindy_version(void);
 #define CATROVINDY_RULES 8                            /* the most rules of a list */
 #define CATROVINDY_SLOTS 24                           /* the numbers of a list: k, m and Z of each of eight slots */
 #define CATROVINDY_MAX_WINDOW 9                       /* the largest m */
-#define CATROVINDY_ZONES 7                            /* the zones, numbered from 0 */
-#define CATROVINDY_ALL_ZONES 127                      /* the largest zone set */
+#define CATROVINDY_ZONES 8                            /* the zones, numbered from 0 */
+#define CATROVINDY_ALL_ZONES 255                      /* the largest zone set */
 #define CATROVINDY_MAX_SIGMA 65535                    /* the largest sigma; the least is 1 */
 #define CATROVINDY_WEIGHT_TOTAL 1073741824            /* 2^30: what the weights of all zones sum to */
 #define CATROVINDY_MAX_HORIZON 65535                  /* the largest horizon; the least is 1 */
@@ -93,26 +93,28 @@ enum {
     CATROVINDY_ZONE_S = 0,  /* t > 3d or t < -3d */
     CATROVINDY_ZONE_A1 = 1, /* 2d < t <= 3d */
     CATROVINDY_ZONE_B1 = 2, /* d < t <= 2d */
-    CATROVINDY_ZONE_C1 = 3, /* 0 <= t <= d */
+    CATROVINDY_ZONE_C1 = 3, /* 0 < t <= d */
     CATROVINDY_ZONE_C2 = 4, /* -d <= t < 0 */
     CATROVINDY_ZONE_B2 = 5, /* -2d <= t < -d */
-    CATROVINDY_ZONE_A2 = 6  /* -3d <= t < -2d */
+    CATROVINDY_ZONE_A2 = 6, /* -3d <= t < -2d */
+    CATROVINDY_ZONE_C0 = 7  /* t = 0 */
 };
 
-/* The zone sets, for the Z of a rule. Sets are joined by |. S is on both sides of the centre, so that no set of one side has it. */
+/* The zone sets, for the Z of a rule. Sets are joined by |. S is on both sides of the centre, C0 on neither: no set of one side has them. */
 enum {
     CATROVINDY_SET_S = 1,            /* beyond three sigma, on either side */
     CATROVINDY_SET_A1 = 2,           /* A above the centre */
     CATROVINDY_SET_B1 = 4,           /* B above */
-    CATROVINDY_SET_C1 = 8,           /* C above, with the centre itself */
+    CATROVINDY_SET_C1 = 8,           /* C above the centre */
     CATROVINDY_SET_C2 = 16,          /* C below the centre */
     CATROVINDY_SET_B2 = 32,          /* B below */
     CATROVINDY_SET_A2 = 64,          /* A below */
+    CATROVINDY_SET_C0 = 128,         /* the centre itself, which no ready list has: such a point counts for neither side */
     CATROVINDY_SET_A_OR_B_ABOVE = 6, /* above the centre by more than one sigma, and at most three */
     CATROVINDY_SET_A_OR_B_BELOW = 96,
-    CATROVINDY_SET_ABOVE = 14, /* at the centre, or above it by at most three sigma */
+    CATROVINDY_SET_ABOVE = 14, /* above the centre by at most three sigma; a point on the centre is in neither */
     CATROVINDY_SET_BELOW = 112,
-    CATROVINDY_SET_C = 24,         /* within one sigma of the centre, on either side */
+    CATROVINDY_SET_C = 152,        /* within one sigma of the centre, on either side or on it */
     CATROVINDY_SET_OUTSIDE_C = 103 /* more than one sigma from the centre, on either side */
 };
 
@@ -123,9 +125,9 @@ enum {
     CATROVINDY_BAD_SIGMA = 1,        /* sigma is outside 1 to 65,535 */
     CATROVINDY_BAD_RULE_COUNT = 2,   /* no rules, or more than eight */
     CATROVINDY_BAD_RULE = 3,         /* m outside 1 to 9, or k outside 1 to m */
-    CATROVINDY_BAD_ZONE_SET = 4,     /* Z is 0 or over 127 */
+    CATROVINDY_BAD_ZONE_SET = 4,     /* Z is 0 or over 255 */
     CATROVINDY_BAD_STATE = 5,        /* the state cannot stand with these rules and this count */
-    CATROVINDY_BAD_ZONE = 6,         /* the zone is over 6 */
+    CATROVINDY_BAD_ZONE = 6,         /* the zone is over 7 */
     CATROVINDY_BAD_COUNT = 7,        /* the count is 4,294,967,295 */
     CATROVINDY_BAD_WEIGHTS = 8,      /* the weights do not sum to 2^30 */
     CATROVINDY_BAD_HORIZON = 9,      /* the horizon is outside 1 to 65,535; in a text, outside 1 to 4,096 */
@@ -156,11 +158,11 @@ static inline const char *catrovindy_meaning(uint64_t code) {
     case CATROVINDY_BAD_SIGMA: return "The chart's sigma is outside 1 to 65,535.";
     case CATROVINDY_BAD_RULE_COUNT: return "There are no rules, or more than eight.";
     case CATROVINDY_BAD_RULE: return "A rule's m is outside 1 to 9, or its k is outside 1 to m.";
-    case CATROVINDY_BAD_ZONE_SET: return "A rule's zone set is 0 or over 127: it has no zone, or one that does not exist.";
+    case CATROVINDY_BAD_ZONE_SET: return "A rule's zone set is 0 or over 255: it has no zone, or one that does not exist.";
     case CATROVINDY_BAD_STATE: return "The monitor's state cannot have come from these rules and this count of points.";
-    case CATROVINDY_BAD_ZONE: return "The zone is over 6: there is no such zone.";
+    case CATROVINDY_BAD_ZONE: return "The zone is over 7: there is no such zone.";
     case CATROVINDY_BAD_COUNT: return "The monitor has counted 4,294,967,295 points with no signal, and can count no further.";
-    case CATROVINDY_BAD_WEIGHTS: return "The weights of the seven zones do not sum to 2^30, which is 1,073,741,824.";
+    case CATROVINDY_BAD_WEIGHTS: return "The weights of the eight zones do not sum to 2^30, which is 1,073,741,824.";
     case CATROVINDY_BAD_HORIZON: return "The horizon is outside 1 to 65,535, or in a text outside 1 to 4,096.";
     case CATROVINDY_BAD_STATE_COUNT: return "The rules have more than 1,024 states, too many for a table.";
     case CATROVINDY_SHORT_LIST: return "A list that was lent for the table is shorter than the horizon.";
@@ -202,7 +204,7 @@ CATROVINDY_CODE uint64_t catrovindy_check(const uint32_t slots[CATROVINDY_AT_LEA
 /*
  * The zone of a reading.
  *   reading, centre, sigma: any numbers.
- *   zone: 1 place, written only. Then holds the zone, 0 to 6.
+ *   zone: 1 place, written only. Then holds the zone, 0 to 7.
  * Refused by 1.
  */
 CATROVINDY_CODE uint64_t catrovindy_zone(int32_t reading, int32_t centre, uint32_t sigma, uint32_t zone[CATROVINDY_AT_LEAST 1]);
@@ -258,7 +260,7 @@ enum {
  * by sums that are rounded down. The chance of a signal by n is the sum of the first n chances. The exact one is not less, and exceeds
  * it by less than n * (N + 1) units.
  *   slots, count: the rules.
- *   weights: CATROVINDY_ZONES numbers; a zone's chance is its weight over 2^30.
+ *   weights: CATROVINDY_ZONES numbers, by the zones' numbers, so that C0's is the last; a zone's chance is its weight over 2^30.
  *   horizon: H.
  *   pmf: `pmf_length` numbers, written only. Then pmf[n - 1] holds the chance of a signal at n; the places beyond H are kept.
  *   survival: `survival_length` numbers, written only. Then survival[n - 1] holds what is left at n; the places beyond H are kept.
@@ -271,7 +273,7 @@ CATROVINDY_CODE uint64_t catrovindy_table(const uint32_t slots[CATROVINDY_AT_LEA
                                           uint64_t figures[CATROVINDY_AT_LEAST CATROVINDY_FIGURES]);
 
 enum {
-    CATROVINDY_FIGURE_STATES = 0,       /* figures[0]: N, the number of states */
+    CATROVINDY_FIGURE_STATES = 0,       /* figures[0]: N, the number of states; zones of weight 0 lead to states too */
     CATROVINDY_FIGURE_SURVIVAL = 1,     /* figures[1]: what is left at the horizon, in units */
     CATROVINDY_FIGURE_MEAN_WHOLE = 2,   /* figures[2]: the whole part of the mean run length cut at the horizon */
     CATROVINDY_FIGURE_MEAN_FRACTION = 3 /* figures[3]: its fraction in units. The exact mean is not less, and exceeds this one by at most
@@ -356,7 +358,7 @@ struct catrovindy_box_plot {
 /* ---- The two programs' reports */
 
 /*
- * The table program's lines for a text of a weights line, rule lines and a horizon line.
+ * The table program's lines for a text of a line of CATROVINDY_ZONES weights, rule lines and a horizon line.
  *   text: `length` bytes.
  *   out: CATROVINDY_TABLE_SIZE bytes, written only. Then begins with the lines; the bytes after them are kept.
  *   bytes: 1 place, written only. Then holds the number of bytes of the lines.

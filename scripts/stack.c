@@ -20,7 +20,7 @@ enum { STACK = 1 << 20, PATTERN = 0xA5, MOST = 256 * 1024, READINGS = 1000000 };
 static const uint32_t western_electric[CATROVINDY_SLOTS] = CATROVINDY_WESTERN_ELECTRIC;
 static const uint32_t many_states[CATROVINDY_SLOTS] = {3, 9, 6, 3, 8, 12};     /* 1,008 states */
 static const uint32_t too_many_states[CATROVINDY_SLOTS] = {3, 9, 6, 3, 9, 12}; /* 1,296 states */
-static const uint32_t weights[CATROVINDY_ZONES] = {153391689, 153391689, 153391689, 153391689, 153391689, 153391689, 153391690};
+static const uint32_t weights[CATROVINDY_ZONES] = {134217728, 134217728, 134217728, 134217728, 134217728, 134217728, 134217728, 134217728};
 
 static uint64_t pmf[CATROVINDY_MAX_HORIZON], survival[CATROVINDY_MAX_HORIZON], figures[CATROVINDY_FIGURES];
 static uint32_t kinds[CATROVINDY_KINDS];
@@ -123,7 +123,7 @@ int main(void) {
     measure("bracket of 65,535 chances", of_bracket, 0);
     measure("table refused by 10", of_refused_table, 10);
     measure("plot record, 1,008 states to 65,535", of_plot, 0);
-    add("weights,153391689,153391689,153391689,153391689,153391689,153391689,153391690\nrule,3,9,6\nrule,3,8,12\nhorizon,4096\n");
+    add("weights,134217728,134217728,134217728,134217728,134217728,134217728,134217728,134217728\nrule,3,9,6\nrule,3,8,12\nhorizon,4096\n");
     measure("table report, 1,008 states to 4,096", of_table_report, 0);
     text_length = 0;
     add("chart,0,1\nrule,1,1,1\n");

@@ -86,7 +86,7 @@ mkfifo "$work/fifo"
 cc -std=c99 -Wall -Wextra -Werror -O1 -shared -fPIC scripts/faults.c -o "$work/faults.so"
 long=$work/long-output # an output of over 65,536 bytes
 cat >"$work/long.runs_table" <<'END'
-weights,2898884,22978326,145927014,366516130,366516130,145927014,22978326
+weights,2898884,22978326,145927014,366516130,366516130,145927014,22978326,0
 rule,1,1,1
 horizon,4096
 END
@@ -186,8 +186,8 @@ for name in runs_table runs_monitor; do
   check "$name: a text without end" 0 'refused,17,0' ''
 done
 
-# The longest texts. For the monitor: Western Electric and readings of five digits, the last two of six. A reading of 50,000 lies on the
-# centre, in C1, so each eighth signals by rule 6, eight in a row above the centre; 150,000 lies in S and signals by rule 0.
+# The longest texts. For the monitor: Western Electric and readings of five digits, the last two of six. A reading of 50,001 lies in
+# C1, so each eighth signals by rule 6, eight in a row above the centre; 150,000 lies in S and signals by rule 0.
 western_electric='rule,1,1,1
 rule,2,3,64
 rule,2,3,2
@@ -197,7 +197,7 @@ rule,8,8,112
 rule,8,8,14'
 {
   printf 'chart,50000,400\n%s\n' "$western_electric"
-  times 5451 point,50000
+  times 5451 point,50001
   printf 'point,150000\npoint,150000\n'
 } >"$work/monitor"
 bytes "$work/monitor" 65536
@@ -228,9 +228,9 @@ check "runs_monitor: 8,189 points, each with a signal" 0 "@$work/nines.out" ''
 
 # For the table: a text of this length can only have too many rules, or a line that is not one.
 {
-  echo weights,0,536870912,0,0,536870912,0,0
-  times 5948 rule,2,2,2
-  times 5 rule,2,2,64
+  echo weights,0,536870912,0,0,536870912,0,0,0
+  times 5950 rule,2,2,2
+  times 3 rule,2,2,64
   echo horizon,4
 } >"$work/table"
 bytes "$work/table" 65536

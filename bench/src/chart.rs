@@ -1,5 +1,5 @@
 //! The rules of document 01, written out from its paragraphs: standings as lists of ages.
-use crate::{refuse, Refusal, Rule, ZONES};
+use crate::{refuse, Refusal, Rule};
 use std::collections::HashMap;
 
 /// 2, 3 and 4, in their order.
@@ -11,7 +11,7 @@ pub fn check(rules: &[Rule]) -> Result<(), Refusal> {
         if !(1..=9).contains(&r.m) || r.k < 1 || r.k > r.m {
             return refuse(3, i as u32);
         }
-        if r.zones == 0 || r.zones > 127 {
+        if r.zones == 0 || r.zones > 255 {
             return refuse(4, i as u32);
         }
     }
@@ -62,8 +62,9 @@ pub fn point(rules: &[Rule], standing: &[Vec<u32>], zone: usize) -> Option<Stand
     (mask(rules, standing, zone) == 0).then(|| after(rules, standing, zone))
 }
 
-/// The standings met with no signal, and where each zone leads from each: none for a signal. Refused by 10 over 1,024.
-pub fn standings(rules: &[Rule]) -> Result<Vec<[Option<usize>; ZONES]>, Refusal> {
+/// The standings met with no signal by sequences of the first so many zones, and where each of these zones leads from each: none for a
+/// signal. Refused by 10 over 1,024.
+pub fn standings<const COUNT: usize>(rules: &[Rule]) -> Result<Vec<[Option<usize>; COUNT]>, Refusal> {
     let start = empty(rules);
     let mut places = HashMap::from([(start.clone(), 0usize)]);
     let mut found = vec![start];
@@ -71,7 +72,7 @@ pub fn standings(rules: &[Rule]) -> Result<Vec<[Option<usize>; ZONES]>, Refusal>
     let mut at = 0;
     while at < found.len() {
         let here = found[at].clone();
-        let mut row = [None; ZONES];
+        let mut row = [None; COUNT];
         for (zone, to) in row.iter_mut().enumerate() {
             if let Some(next) = point(rules, &here, zone) {
                 let fresh = found.len();

@@ -35,10 +35,10 @@ impl Source {
     pub fn rule(&mut self, longest: u32) -> Rule {
         let m = 1 + self.below(u64::from(longest)) as u32;
         let k = 1 + self.below(u64::from(m)) as u32;
-        let zones = 1 + self.below(127) as u32;
+        let zones = 1 + self.below(255) as u32;
         let mut rule = Rule { k, m, zones };
         if self.once_in(40) {
-            let odd = [0, 8, 9, 10, 127, 128, u32::MAX][self.below(7) as usize];
+            let odd = [0, 8, 9, 10, 255, 256, u32::MAX][self.below(7) as usize];
             match self.below(3) {
                 0 => rule.k = odd,
                 1 => rule.m = odd,
@@ -55,17 +55,18 @@ impl Source {
         (0..len).map(|_| self.rule(longest)).collect()
     }
 
-    /// Weights that mostly sum to 2^30, some of them 0.
+    /// Weights that mostly sum to 2^30, some of them 0: the last, of the centre, more than half of the time.
     pub fn weights(&mut self) -> [u32; ZONES] {
         let mut left: u64 = 1 << 30;
         let mut weights = [0u32; ZONES];
-        let start = self.below(ZONES as u64) as usize;
-        for i in 0..ZONES {
-            let zone = (start + i) % ZONES;
-            let w = match (i, self.below(4)) {
-                (6, _) => left,
-                (_, 0) => 0,
-                (_, 1) => self.below(left + 1) / 1_000,
+        let count = if self.once_in(2) { ZONES } else { ZONES - 1 };
+        let start = self.below(count as u64) as usize;
+        for i in 0..count {
+            let zone = (start + i) % count;
+            let w = match self.below(4) {
+                _ if i == count - 1 => left,
+                0 => 0,
+                1 => self.below(left + 1) / 1_000,
                 _ => self.below(left + 1),
             };
             weights[zone] = w as u32;
@@ -81,7 +82,7 @@ impl Source {
         }
         if self.once_in(60) {
             // 2^32 + 2^30 in all: right only modulo 2^32
-            weights = [1 << 31, 1 << 31, 1 << 30, 0, 0, 0, 0];
+            weights = [1 << 31, 1 << 31, 1 << 30, 0, 0, 0, 0, 0];
         }
         weights
     }

@@ -21,7 +21,7 @@ pub fn refuse<T>(number: u32, place: u32) -> Result<T, Refusal> {
     Err(Refusal { number, place })
 }
 
-pub const ZONES: usize = 7;
+pub const ZONES: usize = 8;
 
 pub fn rules(list: &[(u32, u32, u32)]) -> Vec<Rule> {
     list.iter().map(|&(k, m, zones)| Rule { k, m, zones }).collect()
@@ -41,12 +41,13 @@ pub fn large() -> Vec<Rule> {
 }
 
 /// A normal reading on a chart with the right centre and sigma: the normal area of each zone in units of 2^-30, to the nearest, and S what
-/// is missing from 2^30.
-pub const IN_CONTROL: [u32; ZONES] = [2_898_884, 22_978_326, 145_927_014, 366_516_130, 366_516_130, 145_927_014, 22_978_326];
+/// is missing from 2^30. C0 is a line, and has no area.
+pub const IN_CONTROL: [u32; ZONES] = [2_898_884, 22_978_326, 145_927_014, 366_516_130, 366_516_130, 145_927_014, 22_978_326, 0];
 
 /// Points that are rarely outside the inner zones, every zone with a weight of its own: a chart of three of nine that stays quiet for tens of
 /// thousands of points, so that its table has units in every row to the last.
-pub const RARE: [u32; ZONES] = [1_000_003, 4_000_037, 5_000_011, 6_000_101, 1_052_741_652, 2_000_003, 3_000_017];
+pub const RARE: [u32; ZONES] = [1_000_003, 4_000_037, 5_000_011, 6_000_101, 1_045_741_643, 2_000_003, 3_000_017, 7_000_009];
 
-/// Points near the centre line on either side, every zone with a weight of its own: Western Electric's table has units in each of 3,000 rows.
-pub const CENTRED: [u32; ZONES] = [1_009, 20_011, 400_009, 536_490_754, 536_300_021, 500_009, 30_011];
+/// Points near the centre line on either side and seldom on it, every zone with a weight of its own: Western Electric's table has units in each
+/// of 3,000 rows.
+pub const CENTRED: [u32; ZONES] = [1_009, 20_011, 400_009, 535_890_743, 536_300_021, 500_009, 30_011, 600_011];

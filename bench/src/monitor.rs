@@ -28,7 +28,7 @@ fn turned_down(rules: &[Rule], given: &[Vec<u32>], count: u32) -> bool {
 /// One point: what it does, and the monitor for the next one. Refused by 2, 3, 4; 6; 5; 7.
 pub fn step(rules: &[Rule], given: Monitor, zone: u32) -> Result<(Point, Monitor), Refusal> {
     chart::check(rules)?;
-    if zone > 6 {
+    if zone > 7 {
         return refuse(6, 0);
     }
     let windows = windows(given.state);

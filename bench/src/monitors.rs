@@ -1,7 +1,7 @@
 //! Monitors and readings to be given: met, valid though never met, and wrong by a little or a lot.
 use crate::chart::{self, remembered, Standing};
 use crate::inputs::Source;
-use crate::{duncan, monitor, western_electric, Rule};
+use crate::{duncan, monitor, western_electric, Rule, ZONES};
 use catrovindy::Monitor;
 
 impl Source {
@@ -20,7 +20,7 @@ impl Source {
     /// A rule that holds seldom and remembers much.
     fn long_rule(&mut self) -> Rule {
         let m = 5 + self.below(5) as u32;
-        Rule::new(m - self.below(4) as u32, m, 1 + self.below(127) as u32)
+        Rule::new(m - self.below(4) as u32, m, 1 + self.below(255) as u32)
     }
 
     /// Hits that a rule remembers, fewer than k, met or not.
@@ -54,7 +54,7 @@ impl Source {
     fn met(&mut self, rules: &[Rule]) -> Monitor {
         let mut at = Monitor::fresh();
         for _ in 0..self.below(12) {
-            match monitor::step(rules, at, self.below(7) as u32) {
+            match monitor::step(rules, at, self.below(ZONES as u64) as u32) {
                 Ok((_, next)) => at = next,
                 Err(_) => return at,
             }
@@ -93,9 +93,9 @@ impl Source {
     /// A zone, now and then one that does not exist.
     pub fn zone(&mut self) -> u32 {
         if self.once_in(12) {
-            return [7, 8, 31, 32, u32::MAX][self.below(5) as usize];
+            return [8, 9, 31, 32, u32::MAX][self.below(5) as usize];
         }
-        self.below(7) as u32
+        self.below(ZONES as u64) as u32
     }
 
     /// A centre and a sigma, now and then out of bounds.
@@ -117,7 +117,7 @@ impl Source {
         (centre, sigma)
     }
 
-    /// Readings: near the centre, on a limit or beside it, at an end of 32 bits, or any number.
+    /// Readings: on the centre or near it, on a limit or beside it, at an end of 32 bits, or any number.
     pub fn readings(&mut self, centre: i32, sigma: u32) -> Vec<i32> {
         let (centre, sigma) = (i64::from(centre), i64::from(sigma));
         let reading = |source: &mut Source| {
@@ -125,7 +125,8 @@ impl Source {
                 0 => i64::from(i32::MIN),
                 1 => i64::from(i32::MAX),
                 2 => i64::from(source.next() as i32),
-                3..=15 => centre + sigma * (source.below(7) as i64 - 3) + source.below(3) as i64 - 1,
+                3..=8 => centre,
+                9..=18 => centre + sigma * (source.below(7) as i64 - 3) + source.below(3) as i64 - 1,
                 _ => centre + source.below(4 * sigma as u64 + 1) as i64 - 2 * sigma,
             };
             near.clamp(i64::from(i32::MIN), i64::from(i32::MAX)) as i32

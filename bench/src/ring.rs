@@ -40,8 +40,9 @@ pub fn zone(reading: i32, centre: i32, step: u32) -> Result<u8, Refusal> {
     }
     let t = i64::from(reading) - i64::from(centre);
     let (d, size) = (i64::from(step), t.abs());
-    let above = t >= 0;
+    let above = t > 0;
     Ok(match size {
+        0 => 7,
         _ if size > 3 * d => 0,
         _ if size > 2 * d => if above { 1 } else { 6 },
         _ if size > d => if above { 2 } else { 5 },

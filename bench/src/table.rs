@@ -23,10 +23,10 @@ pub fn moves_of(
     Ok(moves)
 }
 
-/// The rows themselves.
-pub fn rows(
-    moves: &[[Option<usize>; ZONES]],
-    weights: &[u32; ZONES],
+/// The rows themselves, over the zones that the moves have.
+pub fn rows<const COUNT: usize>(
+    moves: &[[Option<usize>; COUNT]],
+    weights: &[u32; COUNT],
     horizon: u32,
     pmf: &mut [u64],
     survival: &mut [u64],

@@ -22,7 +22,7 @@ fn read(text: &[u8]) -> Result<TableText, Refusal> {
     if lines.len() > at + 1 || !rest.is_empty() {
         return refuse(16, at as u32 + 2);
     }
-    Ok(TableText { weights: weights.try_into().expect("seven"), rules, horizon: horizon[0] })
+    Ok(TableText { weights: weights.try_into().expect("eight"), rules, horizon: horizon[0] })
 }
 
 fn print(text: &TableText) -> Result<String, Refusal> {

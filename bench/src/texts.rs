@@ -20,10 +20,15 @@ impl Source {
         }
     }
 
-    /// A text that is mostly accepted, with a short horizon.
+    /// A text that is mostly accepted, with a short horizon; now and then with one weight less or more.
     pub fn table_text(&mut self) -> Vec<u8> {
-        let weights = self.weights().map(|w| w.to_string()).join(",");
-        let mut text = format!("weights,{weights}\n");
+        let mut weights = self.weights().map(|w| w.to_string()).to_vec();
+        match self.below(30) {
+            0 => weights.truncate(7),
+            1 => weights.push("0".into()),
+            _ => {}
+        }
+        let mut text = format!("weights,{}\n", weights.join(","));
         let count = self.rule_count();
         self.rule_lines(&mut text, count, if count > 3 { 2 } else { 4 });
         let horizon = match self.below(30) {
@@ -49,7 +54,7 @@ impl Source {
         }
     }
 
-    /// A text that is mostly accepted, with few points.
+    /// A text that is mostly accepted, with few points, some of them on the centre.
     pub fn monitor_text(&mut self) -> Vec<u8> {
         let centre = if self.once_in(8) { self.reading(0) } else { self.below(400) as i64 - 200 };
         let step = match self.below(60) {
@@ -64,7 +69,8 @@ impl Source {
         self.rule_lines(&mut text, count, 9);
         for _ in 0..self.below(40) {
             let near = centre + self.below(60) as i64 - 30;
-            text += &format!("point,{}\n", self.reading(near));
+            let reading = if self.once_in(6) { centre } else { self.reading(near) };
+            text += &format!("point,{reading}\n");
         }
         text.into_bytes()
     }

@@ -1,6 +1,6 @@
 //! Run-length tables and monitors for runs-rules control charts: a safe layer over the exported functions of the proved library.
 //!
-//! A point lies in one of seven zones by its distance from the centre. A [`Rule`] k,m,Z holds where at least k of the last m points lie in
+//! A point lies in one of eight zones by its distance from the centre. A [`Rule`] k,m,Z holds where at least k of the last m points lie in
 //! the zones of Z; where fewer than m points exist, all of them count. A chart signals where some rule of its [`RuleList`] holds, and a
 //! signal clears it. The run length is the number of the first point that signals. A unit is 2^-60.
 //!
@@ -44,6 +44,6 @@ pub use report::{monitor_report, monitor_report_into, table_report, table_report
 pub use rules::{Rule, RuleList, MAX_RULES, MAX_WINDOW};
 pub use table::{bracket, table, Bracket, Figures, Table, MAX_HORIZON, MAX_STATES, UNITS_PER_ONE, WEIGHT_TOTAL};
 pub use version::{version, VERSION, VERSION_NUMBER};
-pub use zone::{zone, Weights, A1, A2, ALL_ZONES, B1, B2, C1, C2, MAX_SIGMA, S, ZONES};
-pub use zone::{SET_A1, SET_A2, SET_ABOVE, SET_A_OR_B_ABOVE, SET_A_OR_B_BELOW, SET_B1, SET_B2, SET_BELOW, SET_C, SET_C1, SET_C2};
+pub use zone::{zone, Weights, A1, A2, ALL_ZONES, B1, B2, C0, C1, C2, MAX_SIGMA, S, ZONES};
+pub use zone::{SET_A1, SET_A2, SET_ABOVE, SET_A_OR_B_ABOVE, SET_A_OR_B_BELOW, SET_B1, SET_B2, SET_BELOW, SET_C, SET_C0, SET_C1, SET_C2};
 pub use zone::{SET_OUTSIDE_C, SET_S};

@@ -53,7 +53,7 @@ impl BoxPlot {
 /// ```
 /// use catrovindy::{BoxPlot, PlotItem, RuleList};
 ///
-/// let in_control = [2_898_884, 22_978_326, 145_927_014, 366_516_130, 366_516_130, 145_927_014, 22_978_326];
+/// let in_control = [2_898_884, 22_978_326, 145_927_014, 366_516_130, 366_516_130, 145_927_014, 22_978_326, 0];
 /// let plot = BoxPlot::new(&RuleList::western_electric(), &in_control, 1000)?;
 /// assert_eq!((plot.p50, plot.iqr), (PlotItem::Point(65.0), Some(97.0)));
 /// assert!(91.7 < plot.lower && plot.lower < plot.upper && plot.upper < 91.8);
@@ -62,7 +62,7 @@ impl BoxPlot {
 pub fn box_plot(rules: &RuleList, weights: &Weights, horizon: u32, pmf: &mut [u64], survival: &mut [u64]) -> Result<BoxPlot, Refusal> {
     let (slots, count) = rules.slots();
     let (mut kinds, mut values) = ([0; raw::KINDS], [0.0; raw::VALUES]);
-    // SAFETY: 24 slots, seven weights, two slices with their lengths, arrays of six and thirteen.
+    // SAFETY: 24 slots, eight weights, two slices with their lengths, arrays of six and thirteen.
     let code = unsafe {
         raw::catrovindy_plot(
             slots.as_ptr(),

@@ -26,11 +26,11 @@ impl Refusal {
     pub const BAD_RULE_COUNT: u32 = 2;
     /// m outside 1 to 9, or k outside 1 to m.
     pub const BAD_RULE: u32 = 3;
-    /// The zone set is 0 or over 127.
+    /// The zone set is 0 or over 255.
     pub const BAD_ZONE_SET: u32 = 4;
     /// The state cannot stand with these rules and this count.
     pub const BAD_STATE: u32 = 5;
-    /// The zone is over 6.
+    /// The zone is over 7.
     pub const BAD_ZONE: u32 = 6;
     /// The count is 4,294,967,295.
     pub const BAD_COUNT: u32 = 7;
@@ -71,11 +71,11 @@ impl Refusal {
             Refusal::BAD_SIGMA => "The chart's sigma is outside 1 to 65,535.",
             Refusal::BAD_RULE_COUNT => "There are no rules, or more than eight.",
             Refusal::BAD_RULE => "A rule's m is outside 1 to 9, or its k is outside 1 to m.",
-            Refusal::BAD_ZONE_SET => "A rule's zone set is 0 or over 127: it has no zone, or one that does not exist.",
+            Refusal::BAD_ZONE_SET => "A rule's zone set is 0 or over 255: it has no zone, or one that does not exist.",
             Refusal::BAD_STATE => "The monitor's state cannot have come from these rules and this count of points.",
-            Refusal::BAD_ZONE => "The zone is over 6: there is no such zone.",
+            Refusal::BAD_ZONE => "The zone is over 7: there is no such zone.",
             Refusal::BAD_COUNT => "The monitor has counted 4,294,967,295 points with no signal, and can count no further.",
-            Refusal::BAD_WEIGHTS => "The weights of the seven zones do not sum to 2^30, which is 1,073,741,824.",
+            Refusal::BAD_WEIGHTS => "The weights of the eight zones do not sum to 2^30, which is 1,073,741,824.",
             Refusal::BAD_HORIZON => "The horizon is outside 1 to 65,535, or in a text outside 1 to 4,096.",
             Refusal::BAD_STATE_COUNT => "The rules have more than 1,024 states, too many for a table.",
             Refusal::SHORT_LIST => "A list that was lent for the table is shorter than the horizon.",

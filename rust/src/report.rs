@@ -13,12 +13,12 @@ pub const TABLE_SIZE: usize = 344_544;
 /// Room for the monitor program's lines for the longest text.
 pub const MONITOR_SIZE: usize = 401_456;
 
-/// The table program's lines for a text of a weights line, rule lines and a horizon line.
+/// The table program's lines for a text of a line of eight weights, rule lines and a horizon line.
 ///
 /// Refused by 17; 16; 2; then rule by rule 3, 4; 8; 9, also for a horizon over 4,096; 10, in this order.
 ///
 /// ```
-/// let text = b"weights,0,536870912,0,0,536870912,0,0\nrule,2,2,2\nhorizon,4\n";
+/// let text = b"weights,0,536870912,0,0,536870912,0,0,0\nrule,2,2,2\nhorizon,4\n";
 /// let lines = catrovindy::table_report(text)?;
 /// assert!(lines.starts_with(b"standings,2\nn,chance,by,left\n1,0,0,1152921504606846976\n"));
 /// # Ok::<(), catrovindy::Refusal>(())

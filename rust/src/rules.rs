@@ -15,7 +15,7 @@ pub struct Rule {
     pub k: u32,
     /// 1 to 9.
     pub m: u32,
-    /// The zone set: the sum of 2^zone, 1 to 127. [`SET_S`](crate::SET_S) and others are such sets.
+    /// The zone set: the sum of 2^zone, 1 to 255. [`SET_S`](crate::SET_S) and others are such sets.
     pub zones: u32,
 }
 
@@ -106,7 +106,7 @@ impl RuleList {
     /// ```
     /// use catrovindy::{Refusal, Rule, RuleList};
     ///
-    /// let list = RuleList::duncan().with(Rule::new(1, 1, 128));
+    /// let list = RuleList::duncan().with(Rule::new(1, 1, 256));
     /// assert_eq!(list.check(), Err(Refusal { number: Refusal::BAD_ZONE_SET, place: 5 }));
     /// ```
     pub fn check(&self) -> Result<(), Refusal> {

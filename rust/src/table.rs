@@ -16,7 +16,7 @@ pub const UNITS_PER_ONE: u64 = 1 << 60;
 /// What a table has besides its two lists.
 #[derive(Clone, Copy, Debug, PartialEq, Eq, Hash)]
 pub struct Figures {
-    /// N, the number of states met with no signal.
+    /// N, the number of states met with no signal; zones of weight 0 lead to states too.
     pub states: u32,
     /// The chance of no signal by the horizon, in units.
     pub survival: u64,
@@ -33,7 +33,7 @@ pub struct Figures {
 pub fn table(rules: &RuleList, weights: &Weights, horizon: u32, pmf: &mut [u64], survival: &mut [u64]) -> Result<Figures, Refusal> {
     let (slots, count) = rules.slots();
     let mut figures = [0; raw::FIGURES];
-    // SAFETY: 24 slots, seven weights, two slices with their lengths, an array of four.
+    // SAFETY: 24 slots, eight weights, two slices with their lengths, an array of four.
     let code = unsafe {
         raw::catrovindy_table(
             slots.as_ptr(),
@@ -83,7 +83,7 @@ impl Table {
     ///
     /// let half = 1 << 29;
     /// let rules = RuleList::new().with(Rule::new(2, 2, 2));
-    /// let table = Table::new(&rules, &[0, half, 0, 0, half, 0, 0], 4)?;
+    /// let table = Table::new(&rules, &[0, half, 0, 0, half, 0, 0, 0], 4)?;
     /// assert_eq!(table.pmf, [0, 1 << 58, 1 << 57, 1 << 57]);
     /// assert_eq!(table.bracket(50)?, Bracket::At(4));
     /// # Ok::<(), catrovindy::Refusal>(())

@@ -1,11 +1,12 @@
 //! Every function once or more: answers that are known, inputs out of bounds, null lists, little stack, many threads.
 use catrovindy::{
     box_plot, bracket, monitor_report, raw, table, table_report, zone, Batch, BoxPlot, Bracket, Monitor, PlotItem, Point, Refusal, Rule,
-    RuleList, Table, Weights, A1, B1, C1, MAX_COUNT, MAX_TEXT, MONITOR_SIZE, S, SET_A1, SET_A_OR_B_ABOVE, SET_S, TABLE_SIZE,
+    RuleList, Table, Weights, A1, ALL_ZONES, B1, C0, C1, MAX_COUNT, MAX_TEXT, MONITOR_SIZE, S, SET_A1, SET_ABOVE, SET_A_OR_B_ABOVE,
+    SET_BELOW, SET_C0, SET_S, TABLE_SIZE, ZONES,
 };
 use std::ptr::{null, null_mut};
 
-const IN_CONTROL: Weights = [2_898_884, 22_978_326, 145_927_014, 366_516_130, 366_516_130, 145_927_014, 22_978_326];
+const IN_CONTROL: Weights = [2_898_884, 22_978_326, 145_927_014, 366_516_130, 366_516_130, 145_927_014, 22_978_326, 0];
 
 fn refused<T: std::fmt::Debug>(answer: Result<T, Refusal>) -> (u32, u32) {
     let refusal = answer.expect_err("a refusal");
@@ -14,9 +15,50 @@ fn refused<T: std::fmt::Debug>(answer: Result<T, Refusal>) -> (u32, u32) {
 
 #[test]
 fn zones_of_readings() {
-    let zones = [131, 130, 120, 111, 110, 100, 99, 90, 89, 79, 70, 69].map(|reading| zone(reading, 100, 10).expect("a zone"));
-    assert_eq!(zones, [0, 1, 2, 2, 3, 3, 4, 4, 5, 6, 6, 0]);
+    let zones = [131, 130, 120, 111, 110, 101, 100, 99, 90, 89, 79, 70, 69].map(|reading| zone(reading, 100, 10).expect("a zone"));
+    assert_eq!(zones, [0, 1, 2, 2, 3, 3, 7, 4, 4, 5, 6, 6, 0]);
     assert_eq!(refused(zone(i32::MIN, i32::MAX, 65_536)), (1, 0));
+}
+
+#[test]
+fn a_reading_on_the_centre_is_in_c0_on_every_chart() {
+    for centre in [i32::MIN, -100, 0, 100, i32::MAX] {
+        for sigma in [1, 10, 65_535] {
+            assert_eq!(zone(centre, centre, sigma), Ok(C0), "centre {centre}, sigma {sigma}");
+        }
+    }
+}
+
+#[test]
+fn a_point_on_the_centre_counts_for_neither_side() {
+    let eight = |zones| RuleList::new().with(Rule::new(8, 8, zones));
+    let take = |rules: &RuleList, readings: &[i32]| Monitor::fresh().take(rules, 100, 10, readings);
+    let signal = |n: u32, mask| Ok(Batch::Signal { taken: n as usize, count: n, mask });
+    // four above the centre, one on it, eight above: only the last eight are in a row
+    let mut above = [101; 13];
+    above[4] = 100;
+    assert_eq!(take(&eight(SET_ABOVE), &above), signal(13, 1));
+    assert_eq!(take(&RuleList::western_electric(), &above), signal(13, 1 << 6));
+    // where the set has the centre too, the first eight are
+    assert_eq!(take(&eight(SET_ABOVE | SET_C0), &above), signal(8, 1));
+    let below = above.map(|reading| 200 - reading);
+    assert_eq!(take(&eight(SET_BELOW), &below), signal(13, 1));
+    assert_eq!(take(&RuleList::western_electric(), &below), signal(13, 1 << 5));
+    for rules in [RuleList::western_electric(), RuleList::duncan()] {
+        assert_eq!(take(&rules, &[100; 50]), Ok(Batch::Quiet { taken: 50, count: 50 }));
+    }
+}
+
+#[test]
+fn a_rule_of_the_centre_alone() {
+    let rules = RuleList::new().with(Rule::new(1, 1, SET_C0));
+    for (reading, mask) in [(101, 0), (100, 1), (99, 0)] {
+        assert_eq!(Monitor::fresh().step(&rules, zone(reading, 100, 10).expect("a zone")), Ok(Point { count: 1, mask }), "{reading}");
+    }
+    // its weight is the last: half of the points on the centre
+    let half = 1 << 29;
+    let table = Table::new(&rules, &[0, 0, 0, half, 0, 0, 0, half], 3).expect("accepted");
+    assert_eq!((table.pmf, table.figures.states), (vec![1 << 59, 1 << 58, 1 << 57], 1));
 }
 
 #[test]
@@ -37,7 +79,7 @@ fn a_refused_step_leaves_the_monitor() {
     let given = Monitor { state: 2 << 16, points: 1 };
     let mut monitor = given;
     assert_eq!(refused(monitor.step(&rules, A1)), (5, 0));
-    assert_eq!(refused(monitor.step(&rules, 7)), (6, 0));
+    assert_eq!(refused(monitor.step(&rules, 8)), (6, 0));
     assert_eq!(refused(monitor.take(&rules, 0, 0, &[1])), (1, 0));
     assert_eq!(monitor, given);
 }
@@ -56,7 +98,7 @@ fn a_signal_has_every_rule_that_holds() {
     // the same as readings: the rest is left
     assert_eq!(monitor.take(&rules, 0, 10, &[25, 15, 5]), Ok(Batch::Signal { taken: 2, count: 2, mask: 3 }));
     // the first and the third rule at one point, and not the second
-    let rules = RuleList::new().with(Rule::new(1, 1, SET_S)).with(Rule::new(2, 2, SET_A1)).with(Rule::new(1, 9, 127));
+    let rules = RuleList::new().with(Rule::new(1, 1, SET_S)).with(Rule::new(2, 2, SET_A1)).with(Rule::new(1, 9, ALL_ZONES));
     assert_eq!(monitor.step(&rules, S), Ok(Point { count: 1, mask: 5 }));
 }
 
@@ -89,7 +131,7 @@ fn a_batch_of_no_readings_is_checked_like_a_first_reading() {
     assert_eq!(refused(monitor.take(&rules, 0, 65_536, &[])), (1, 0));
     assert_eq!(refused(monitor.take(&RuleList::new(), 0, 1, &[])), (2, 0));
     assert_eq!(refused(monitor.take(&rules.with(Rule::new(0, 1, 1)), 0, 1, &[])), (3, 5));
-    assert_eq!(refused(monitor.take(&rules.with(Rule::new(1, 1, 128)), 0, 1, &[])), (4, 5));
+    assert_eq!(refused(monitor.take(&rules.with(Rule::new(1, 1, 256)), 0, 1, &[])), (4, 5));
     assert_eq!(monitor, Monitor { state: 0, points: 12 });
     let mut monitor = Monitor { state: 1, points: 12 };
     assert_eq!(refused(monitor.take(&rules, 0, 1, &[])), (5, 0));
@@ -110,7 +152,10 @@ fn a_rule_list_is_checked_by_itself() {
     assert_eq!(refused(nine.check()), (2, 0));
     // rule by rule: the set of the first comes before the window of the second
     assert_eq!(refused(RuleList::new().with(Rule::new(1, 1, 0)).with(Rule::new(1, 10, 1)).check()), (4, 0));
-    assert_eq!(refused(RuleList::new().with(Rule::new(1, 9, 127)).with(Rule::new(10, 9, 0)).check()), (3, 1));
+    assert_eq!(refused(RuleList::new().with(Rule::new(1, 9, 255)).with(Rule::new(10, 9, 0)).check()), (3, 1));
+    // the largest set, and one more
+    assert_eq!(RuleList::new().with(Rule::new(1, 1, 255)).check(), Ok(()));
+    assert_eq!(refused(RuleList::new().with(Rule::new(1, 1, 256)).check()), (4, 0));
 }
 
 /// The exported functions by way of `raw`: a list of length 0 may be null.
@@ -148,7 +193,7 @@ fn lists_of_any_length() {
         assert_eq!(refused(BoxPlot::new(&rules, &IN_CONTROL, horizon)), (9, 0));
     }
     assert_eq!(refused(table(&rules, &IN_CONTROL, 2, &mut [7; 2], &mut [])), (11, 0));
-    assert_eq!(refused(box_plot(&rules, &[u32::MAX; 7], 2, &mut [], &mut [])), (8, 0));
+    assert_eq!(refused(box_plot(&rules, &[u32::MAX; ZONES], 2, &mut [], &mut [])), (8, 0));
     assert_eq!(refused(bracket(&[], 1, 50)), (12, 0));
     assert_eq!(refused(bracket(&[u64::MAX; 3], 1, 50)), (15, 0));
     assert_eq!(bracket(&[1 << 59], 1, 50), Ok(Bracket::At(1)));
@@ -160,9 +205,9 @@ fn lists_of_any_length() {
 #[test]
 fn a_table_and_its_bounds() {
     let table = Table::new(&RuleList::western_electric(), &IN_CONTROL, 1000).expect("accepted");
-    assert_eq!(table.figures.states, 295);
+    assert_eq!(table.figures.states, 307);
     let (low, high) = table.signal_by(1000).expect("within the horizon");
-    assert_eq!((low, high - low), (1_152_907_420_522_847_495, 1000 * 296));
+    assert_eq!((low, high - low), (1_152_907_420_522_847_495, 1000 * 308));
     assert_eq!((table.signal_by(0), table.signal_by(1001)), (None, None));
     assert_eq!(refused(table.bracket(100)), (14, 0));
 }
@@ -191,8 +236,8 @@ fn a_plot_is_the_table_in_doubles() {
 
 #[test]
 fn refusals_in_words() {
-    let refusal = Monitor::fresh().step(&RuleList::duncan().with(Rule::new(1, 1, 128)), C1).expect_err("a refusal");
-    let words = "A rule's zone set is 0 or over 127: it has no zone, or one that does not exist.";
+    let refusal = Monitor::fresh().step(&RuleList::duncan().with(Rule::new(1, 1, 256)), C1).expect_err("a refusal");
+    let words = "A rule's zone set is 0 or over 255: it has no zone, or one that does not exist.";
     assert_eq!((refusal.number, refusal.place, refusal.meaning()), (Refusal::BAD_ZONE_SET, 5, words));
     assert_eq!(refusal.to_string(), format!("refused by 4, place 5: {words}"));
     let boxed: Box<dyn std::error::Error> = Box::new(refusal);
@@ -202,10 +247,19 @@ fn refusals_in_words() {
     assert_eq!(words, "refused by 16, place 1: A line of the text is missing, is not the one expected, or cannot be read.");
 }
 
+/// With one field less or more the weights line cannot be read, even where the sum is right.
+#[test]
+fn a_text_has_eight_weights() {
+    let text = |weights: &str| table_report(format!("weights,{weights}\nrule,2,2,2\nhorizon,4\n").as_bytes());
+    assert!(text("0,536870912,0,0,536870912,0,0,0").is_ok());
+    assert_eq!(refused(text("0,536870912,0,0,536870912,0,0")), (16, 1));
+    assert_eq!(refused(text("0,536870912,0,0,536870912,0,0,0,0")), (16, 1));
+}
+
 /// The header promises that 256 KiB of stack are enough, and that calls may run at the same time.
 #[test]
 fn little_stack_and_many_threads() {
-    let text: &[u8] = b"weights,2898884,22978326,145927014,366516130,366516130,145927014,22978326\nrule,3,9,6\nrule,3,8,12\nhorizon,4096\n";
+    let text: &[u8] = b"weights,2898884,22978326,145927014,366516130,366516130,145927014,22978326,0\nrule,3,9,6\nrule,3,8,12\nhorizon,4096\n";
     let work = move || {
         let lines = table_report(text).expect("accepted");
         let plot = BoxPlot::new(&RuleList::western_electric(), &IN_CONTROL, 300).expect("accepted");

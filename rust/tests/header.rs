@@ -122,6 +122,7 @@ fn ours() -> Numbers {
         ("ZONE_C2", C2.into()),
         ("ZONE_B2", B2.into()),
         ("ZONE_A2", A2.into()),
+        ("ZONE_C0", C0.into()),
         ("SET_S", SET_S.into()),
         ("SET_A1", SET_A1.into()),
         ("SET_B1", SET_B1.into()),
@@ -129,6 +130,7 @@ fn ours() -> Numbers {
         ("SET_C2", SET_C2.into()),
         ("SET_B2", SET_B2.into()),
         ("SET_A2", SET_A2.into()),
+        ("SET_C0", SET_C0.into()),
         ("SET_A_OR_B_ABOVE", SET_A_OR_B_ABOVE.into()),
         ("SET_A_OR_B_BELOW", SET_A_OR_B_BELOW.into()),
         ("SET_ABOVE", SET_ABOVE.into()),
@@ -203,7 +205,7 @@ fn versions_agree() {
 fn the_header_has_the_proved_sizes() {
     let (_, proved) = proved();
     let declared = declared();
-    assert!(proved.len() >= 48, "{} numbers are too few", proved.len());
+    assert!(proved.len() >= 49, "{} numbers are too few", proved.len());
     for (name, value) in &proved {
         assert_eq!(declared.get(name), Some(value), "{name} in the header");
     }
@@ -263,10 +265,11 @@ fn the_zones_are_those_of_readings() {
         ("S", [131, 69]),
         ("A1", [121, 130]),
         ("B1", [111, 120]),
-        ("C1", [100, 110]),
+        ("C1", [101, 110]),
         ("C2", [90, 99]),
         ("B2", [80, 89]),
         ("A2", [70, 79]),
+        ("C0", [100, 100]),
     ] {
         let number = declared[&format!("ZONE_{name}")];
         for reading in readings {
@@ -280,7 +283,7 @@ fn the_zones_are_those_of_readings() {
     for (name, has) in [
         ("SET_A_OR_B_ABOVE", (|t| (11..=30).contains(&t)) as fn(i32) -> bool),
         ("SET_A_OR_B_BELOW", |t| (-30..-10).contains(&t)),
-        ("SET_ABOVE", |t| (0..=30).contains(&t)),
+        ("SET_ABOVE", |t| (1..=30).contains(&t)),
         ("SET_BELOW", |t| (-30..0).contains(&t)),
         ("SET_C", |t| (-10..=10).contains(&t)),
         ("SET_OUTSIDE_C", |t| !(-10..=10).contains(&t)),

@@ -1,8 +1,10 @@
 //! Compares the proved library with the second implementation on many inputs, accepted and refused: every figure, every place of both
-//! lists, the places beyond the horizon among them. Prints what it compared, and stops at the first difference.
+//! lists, the places beyond the horizon among them. Where the centre has weight 0, also with a table that knows the other seven zones alone.
+//! Prints what it compared, and stops at the first difference.
 use bench::inputs::Source;
 use bench::tally::Tally;
-use bench::{bracket, chart, duncan, large, lent, rules, table, western_electric, Rule, IN_CONTROL, ZONES};
+use bench::{bracket, chart, duncan, large, lent, refuse, rules, table, western_electric, Refusal, Rule, IN_CONTROL, ZONES};
+use catrovindy::Figures;
 
 /// What stands in a place that must not be written.
 const KEPT: u64 = 0xDEAD_BEEF_0BAD_F00D;
@@ -42,10 +44,26 @@ fn odd_brackets(tally: &mut Tally, source: &mut Source) {
     same_bracket(tally, &chances, n, p);
 }
 
+/// What was met: among the tables those where the centre has weight 0, and those of them where it leads to standings of its own.
 #[derive(Default)]
 struct Met {
     tables: Tally,
     brackets: Tally,
+    off_centre: u64,
+    with_more: u64,
+}
+
+/// A zone of weight 0 alters N alone: the table over the other seven zones has the same rows and mean, and no more standings.
+fn same_off_centre(met: &mut Met, rules: &[Rule], others: &[u32; ZONES - 1], all: Figures, (p, s): (&[u64], &[u64])) {
+    let call = || format!("off the centre: {rules:?} {others:?} {}", p.len());
+    let (mut p2, mut s2) = (vec![KEPT; p.len()], vec![KEPT; s.len()]);
+    let moves = chart::standings(rules).expect("no more standings than over all zones");
+    let fewer = table::rows(&moves, others, p.len() as u32, &mut p2, &mut s2);
+    assert!(p == p2 && s == s2, "the rows, {}", call());
+    assert_eq!(Figures { states: all.states, ..fewer }, all, "the figures, {}", call());
+    assert!(fewer.states <= all.states, "the standings, {}", call());
+    met.off_centre += 1;
+    met.with_more += u64::from(fewer.states < all.states);
 }
 
 fn same(met: &mut Met, rules: &[Rule], weights: &[u32; ZONES], horizon: u32, lengths: (usize, usize)) {
@@ -64,8 +82,17 @@ fn same(met: &mut Met, rules: &[Rule], weights: &[u32; ZONES], horizon: u32, len
     }
     met.tables.add(&ours);
     if let Ok(f) = ours {
-        brackets(&mut met.brackets, &p[..horizon as usize], f.states);
+        let (p, s) = (&p[..horizon as usize], &s[..horizon as usize]);
+        brackets(&mut met.brackets, p, f.states);
+        if let [others @ .., 0] = weights {
+            same_off_centre(met, rules, others, f, (p, s));
+        }
     }
+}
+
+/// How many standings a list has over all zones, and over the seven other than the centre.
+fn standings(list: &[Rule]) -> (Result<usize, Refusal>, Result<usize, Refusal>) {
+    (chart::standings::<ZONES>(list).map(|moves| moves.len()), chart::standings::<{ ZONES - 1 }>(list).map(|moves| moves.len()))
 }
 
 fn main() {
@@ -79,7 +106,9 @@ fn main() {
         let lens = source.lengths(horizon);
         same(&mut met, &list, &weights, horizon, lens);
     }
-    for list in [western_electric(), duncan(), large(), rules(&[(3, 9, 6), (3, 9, 12)])] {
+    // every zone but the centre is in some set of this list, and the centre leads it to more than 1,024 standings
+    let crowded = rules(&[(4, 6, 126), (4, 7, 115), (4, 9, 2), (4, 4, 57)]);
+    for list in [western_electric(), duncan(), large(), rules(&[(3, 9, 6), (3, 9, 12)]), crowded.clone()] {
         for horizon in [1, 2, 4_096, 65_535] {
             let h = horizon as usize;
             same(&mut met, &list, &IN_CONTROL, horizon, (h + 2, h + 1));
@@ -90,7 +119,13 @@ fn main() {
     for _ in 0..count / 20 {
         odd_brackets(&mut met.brackets, &mut source);
     }
-    assert_eq!(chart::standings(&large()).unwrap().len(), 1008);
-    met.tables.report("table", "", &[2, 3, 4, 8, 9, 10, 11]);
-    met.brackets.report("bracket", "", &[12, 13, 14, 15]);
+    assert_eq!(standings(&large()), (Ok(1008), Ok(1008)));
+    assert_eq!(standings(&western_electric()), (Ok(307), Ok(295)));
+    assert_eq!(standings(&duncan()), (Ok(17), Ok(17)));
+    assert_eq!(standings(&crowded), (refuse(10, 0), Ok(590)));
+    let Met { tables, brackets, off_centre, with_more } = met;
+    let more = format!(" ({off_centre} with weight 0 on the centre, as over the other seven zones; N is larger in {with_more} of these)");
+    tables.report("table", &more, &[2, 3, 4, 8, 9, 10, 11]);
+    brackets.report("bracket", "", &[12, 13, 14, 15]);
+    assert!((off_centre >= 1_000 && with_more >= 300) || count < 20_000, "the centre had weight 0 too seldom");
 }

@@ -1,15 +1,16 @@
 //! Compares the zone of a reading, the monitor's step and the batch of readings with the second implementation on many calls, accepted and
 //! refused: the answer, the next monitor, and on a refusal all that was lent. Each batch is compared with single steps of the proved
-//! library too.
+//! library too, and every rule that holds must have the zone of the point in its set: one on the centre signals by rules with C0 alone.
 use bench::inputs::Source;
 use bench::tally::Tally;
 use bench::{lent, monitor, ring, Refusal, Rule};
-use catrovindy::{zone, Batch, Monitor, RuleList};
+use catrovindy::{zone, Batch, Monitor, RuleList, C0};
 
 /// What was met besides refusals.
 #[derive(Default)]
 struct Met {
     zones: Tally,
+    centred: u64,
     steps: Tally,
     batches: Tally,
     quiet: u64,
@@ -17,6 +18,7 @@ struct Met {
     readings: u64,
     ended: u64,
     signalled: u64,
+    signalled_on_centre: u64,
     full: u64,
 }
 
@@ -26,6 +28,13 @@ fn same_zone(met: &mut Met, reading: i32, (centre, sigma): (i32, u32)) {
     assert_eq!(ours, ring::zone(reading, centre, sigma).map(u32::from), "reading {reading} centre {centre} sigma {sigma}");
     assert_eq!(ours, zone(reading, centre, sigma), "the Rust layer: reading {reading} centre {centre} sigma {sigma}");
     met.zones.add(&ours);
+    met.centred += u64::from(ours == Ok(C0));
+}
+
+/// Whether each rule of a mask has the zone in its set. A monitor that is accepted has too few hits for any rule, so that a point outside a
+/// rule's set never makes it hold.
+fn in_sets(rules: &[Rule], mask: u32, zone: u32) -> bool {
+    rules.iter().enumerate().all(|(i, rule)| mask >> i & 1 == 0 || rule.zones >> zone & 1 == 1)
 }
 
 /// One step by the exported function, by the Rust layer and by the second implementation: the monitor for the next one.
@@ -38,6 +47,7 @@ fn same_step(met: &mut Met, rules: &[Rule], given: Monitor, zone: u32) -> Option
     assert!(wrapped.is_ok() || at == given, "a refusal altered the monitor: {rules:?} {given:?} zone {zone}");
     met.steps.add(&ours);
     let (point, next) = ours.ok()?;
+    assert!(in_sets(rules, point.mask, zone), "a rule without the point's zone: {rules:?} {given:?} zone {zone} {point:?}");
     if point.is_signal() {
         met.signals += 1;
     } else {
@@ -98,7 +108,12 @@ fn same_batch(met: &mut Met, rules: &[Rule], given: Monitor, (centre, sigma): (i
     met.readings += batch.taken() as u64;
     match batch {
         Batch::Full { .. } => met.full += 1,
-        Batch::Signal { .. } => met.signalled += 1,
+        Batch::Signal { taken, mask, .. } => {
+            let last = zone(readings[taken - 1], centre, sigma).expect("sigma in bounds");
+            assert!(in_sets(rules, mask, last), "a rule without the last reading's zone: {}", call());
+            met.signalled += 1;
+            met.signalled_on_centre += u64::from(last == C0);
+        }
         Batch::Quiet { .. } => met.ended += 1,
     }
     Some((batch, next))
@@ -130,11 +145,13 @@ fn main() {
         walk(&mut met, &mut source);
         series(&mut met, &mut source);
     }
-    let Met { zones, steps, batches, quiet, signals, readings, ended, signalled, full } = met;
-    zones.report("zone", "", &[1]);
+    let Met { zones, centred, steps, batches, quiet, signals, readings, ended, signalled, signalled_on_centre, full } = met;
+    zones.report("zone", &format!(" ({centred} on the centre)"), &[1]);
     steps.report("step", &format!(" ({quiet} quiet, {signals} signals)"), &[2, 3, 4, 5, 6, 7]);
-    let more = format!(" ({readings} readings; {ended} to the end, {signalled} to a signal, {full} to a full count)");
+    let signalled_where = format!("{signalled} to a signal, {signalled_on_centre} of them on the centre");
+    let more = format!(" ({readings} readings; {ended} to the end, {signalled_where}, {full} to a full count)");
     batches.report("batch", &more, &[1, 2, 3, 4, 5, 7]);
     assert!(steps.accepted >= 1_000_000 || count < 150_000, "fewer than a million steps were taken");
     assert!(ended > 0 && signalled > 0 && full > 0, "a way to stop was not met");
+    assert!(10 * centred >= zones.accepted && signalled_on_centre > 0, "readings on the centre came too seldom");
 }

@@ -47,6 +47,7 @@ fn main() {
     let mut table_out: Box<[u8; TABLE_SIZE]> = vec![KEPT; TABLE_SIZE].try_into().expect("the size");
     let mut monitor_out: Box<[u8; MONITOR_SIZE]> = vec![KEPT; MONITOR_SIZE].try_into().expect("the size");
     let (mut tables, mut monitors) = (Met::new(TABLE_SIZE), Met::new(MONITOR_SIZE));
+    let mut miscounted = 0;
     for i in 0..count {
         let (mut table, mut monitor) = (source.table_text(), source.monitor_text());
         if i % 2 == 1 {
@@ -55,6 +56,8 @@ fn main() {
         }
         let ours = table_report(&table, &mut table_out);
         let theirs = table_program(&table);
+        // in a text that is not damaged only the number of weights can be wrong on the first line
+        miscounted += u64::from(i % 2 == 0 && ours == Err(Refusal { number: 16, place: 1 }));
         if i % 16 < 2 {
             assert!(catrovindy::table_report(&table) == theirs, "the Rust layer: {}", String::from_utf8_lossy(&table));
         }
@@ -66,6 +69,7 @@ fn main() {
         }
         monitors.compare(&monitor, ours, &mut monitor_out[..], theirs);
     }
-    tables.tally.report("table program", "", &[2, 3, 4, 8, 9, 16, 17]);
+    tables.tally.report("table program", &format!(" ({miscounted} others with seven or nine weights)"), &[2, 3, 4, 8, 9, 16, 17]);
     monitors.tally.report("monitor program", "", &[1, 2, 3, 4, 16, 17]);
+    assert!(miscounted > 0, "no text had seven or nine weights");
 }

@@ -1,4 +1,4 @@
--- The claims: demands 1, 2 and 3, the plot record, and the marked examples, with the definitions that they speak of.
+-- The claims: demands 1, 2 and 3, the centre line, the plot record, and the marked examples, with the definitions that they speak of.
 pub mod Exact
 pub mod ExactLaws
 pub mod MonitorLaws
@@ -10,5 +10,10 @@ pub mod CountedLaws
 pub mod Demand1
 pub mod Demand2
 pub mod Demand3
+pub mod Centre
+pub mod InsideLaws
+pub mod WithoutCentreLaws
+pub mod CentreLine
+pub mod EightZones
 pub mod Marked
 pub mod BoxPlot

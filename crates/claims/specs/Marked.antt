@@ -41,7 +41,7 @@ oneRule k m zones =
 
 -- the listing's weights, half in A1 and half in C2, and two lent lists of its horizon
 abbrev halves : List ℕ
-halves = 0 ∷ 536870912 ∷ 0 ∷ 0 ∷ 536870912 ∷ 0 ∷ 0 ∷ []
+halves = 0 ∷ 536870912 ∷ 0 ∷ 0 ∷ 536870912 ∷ 0 ∷ 0 ∷ 0 ∷ []
 
 abbrev empty : List ℕ
 empty = 0 ∷ 0 ∷ 0 ∷ 0 ∷ []
@@ -56,10 +56,10 @@ listing = oneRule 2 2 2
 -- the rows; `pick` takes what is given, or what the paper says
 abbrev pub marked : (Figure → Figure → Figure) → List Figure
 marked pick =
-    -- zones with centre 100 and step 10: S, A1, C1, C2, S
+    -- zones with centre 100 and step 10: S, A1, C0, C2, S
     pick (zone (zoneOf (pos 131) (pos 100) 10)) (zone (Zone 0))
     ∷ pick (zone (zoneOf (pos 130) (pos 100) 10)) (zone (Zone 1))
-    ∷ pick (zone (zoneOf (pos 100) (pos 100) 10)) (zone (Zone 3))
+    ∷ pick (zone (zoneOf (pos 100) (pos 100) 10)) (zone (Zone 7))
     ∷ pick (zone (zoneOf (pos 99) (pos 100) 10)) (zone (Zone 4))
     ∷ pick (zone (zoneOf (pos 69) (pos 100) 10)) (zone (Zone 0))
     -- N for 2,3 and for 4,5

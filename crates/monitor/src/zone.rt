@@ -31,6 +31,8 @@ impl ZoneAnswer {
     pub const B2: u32 = 5;
 
     pub const A2: u32 = 6;
+
+    pub const C0: u32 = 7;
 }
 
 // Whether sigma is within its bounds.
@@ -73,22 +75,24 @@ pub fn zone_at(reading: i32, centre: i32, sigma: u32) -> u32
     let at = biased(reading);
     let middle = biased(centre);
     if at < middle {
-        band_of(
+        return band_of(
             sigma,
             middle - at,
             ZoneAnswer::C2,
             ZoneAnswer::B2,
             ZoneAnswer::A2,
-        )
-    } else {
-        band_of(
+        );
+    }
+    if middle < at {
+        return band_of(
             sigma,
             at - middle,
             ZoneAnswer::C1,
             ZoneAnswer::B1,
             ZoneAnswer::A1,
-        )
+        );
     }
+    ZoneAnswer::C0
 }
 
 // The zone of a reading on a chart with this centre and sigma: refused by 1 where sigma is out of bounds.

@@ -6,10 +6,9 @@ use rules::RuleList;
 use rules::ZONES;
 use text::Line;
 use text::MAX_TEXT;
-use text::ZoneWeights;
+use text::weight_array;
 ghost use mathlib.Core.Path.{_≡_};
 ghost use Rattle.rules.specs.Refusal.{refusal};
-ghost use Rattle.text.specs.Format.{weightList};
 ghost use Rattle.parse.specs.TableText.{refusedTable, tableText};
 
 // What was read, with the number 0; or the refusal, and no weights, no rules and no horizon.
@@ -18,13 +17,6 @@ pub struct TableText {
     pub weights: [u32; ZONES],
     pub list: RuleList,
     pub horizon: u32,
-}
-
-// The weights from zone 0 on.
-fn weight_array(w: ZoneWeights) -> [u32; ZONES]
-    ensures { λ r. ⌜ r ≡ weightList w ⌝ }
-{
-    [w.s, w.a1, w.b1, w.c1, w.c2, w.b2, w.a2]
 }
 
 fn refused_table(number: u32, place: u32) -> TableText

@@ -9,6 +9,7 @@ pub mod TableProgram
 pub mod MonitorProgram
 pub mod NumberOnce
 pub mod LinesOnce
+pub mod WeightsLine
 pub mod PrintedOnce
 pub mod Coded
 pub mod CodedLaws

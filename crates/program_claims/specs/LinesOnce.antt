@@ -17,7 +17,7 @@ use Rattle.print.specs.PercentLine.{qWord, placeFields, percentLine}
 use Rattle.program_claims.specs.NumberOnce.{comma, newline, number-once, behind-once, fields-once}
 
 -- a line of a word and fields
-line-once : (word ns ms xs ys : List ℕ) → word ++ (fields ns ++ (10 ∷ xs)) ≡ word ++ (fields ms ++ (10 ∷ ys)) → (ns ≡ ms) × (xs ≡ ys)
+pub line-once : (word ns ms xs ys : List ℕ) → word ++ (fields ns ++ (10 ∷ xs)) ≡ word ++ (fields ms ++ (10 ∷ ys)) → (ns ≡ ms) × (xs ≡ ys)
 line-once word ns ms xs ys e = fields-once ns ms xs ys (behind-once word e)
 
 -- ---- the shape of each line

@@ -66,7 +66,8 @@ fn list_of(first: Pair, second: Pair, third: Pair, len: u32) -> RuleList {
     }
 }
 
-// The normal law's probability of each zone in control times 2^30, rounded to the nearest whole number; the sum is 2^30.
+// The normal law's probability of each zone in control times 2^30, rounded to the nearest whole number; the sum is 2^30. No point of a
+// normal law is on the centre line.
 pub fn in_control() -> [u32; ZONES] {
     [
         2898884,
@@ -76,6 +77,7 @@ pub fn in_control() -> [u32; ZONES] {
         366516130,
         145927014,
         22978326,
+        0,
     ]
 }
 

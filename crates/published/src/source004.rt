@@ -57,7 +57,7 @@ fn shewhart(
 
 // The weight of S, and the rest in C1.
 fn two_zones(signal: u32, rest: u32) -> [u32; ZONES] {
-    [signal, 0, 0, rest, 0, 0, 0]
+    [signal, 0, 0, rest, 0, 0, 0, 0]
 }
 
 fn western_electric(tally: Tally) -> Tally {

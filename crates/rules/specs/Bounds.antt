@@ -3,7 +3,7 @@ use Prim.Native.Nat.{ℕ, _-_, _^_}
 
 -- zones are the numbers below it
 abbrev pub zoneCount : ℕ
-zoneCount = 7
+zoneCount = 8
 
 -- the largest number of 32 bits: the largest that a text can say, and the largest count
 abbrev pub maxNumber : ℕ

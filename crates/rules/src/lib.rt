@@ -8,7 +8,7 @@ mod refusal;
 pub use refusal::Refusal;
 
 // How many zones the chart has: they are numbered from 0. Nothing else says it.
-pub const ZONES: usize = 7;
+pub const ZONES: usize = 8;
 
 // The largest number of 32 bits: the largest that a text can say, and the largest count.
 pub const MAX_NUMBER: u32 = 4294967295;

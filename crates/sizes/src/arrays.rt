@@ -21,4 +21,5 @@ pub fn zones() {
     line(b"ZONE_C2,", ZoneAnswer::C2 as u64);
     line(b"ZONE_B2,", ZoneAnswer::B2 as u64);
     line(b"ZONE_A2,", ZoneAnswer::A2 as u64);
+    line(b"ZONE_C0,", ZoneAnswer::C0 as u64);
 }

@@ -37,7 +37,8 @@ less-keeps {y = y} (List·Memᴰ·tail {x = x′} {xs = xs} m) k d = go (List·M
     go (inl p) r = List·Memᴰ·head p
     go (inr i) r = List·Memᴰ·tail (r i)
 
-at-mem : (ys : List ℕ) (i s : ℕ) → i < length ys → getD ys i 0 ≡ s → List·Memᴰ s ys
+-- what stands at a place is in the list
+pub at-mem : (ys : List ℕ) (i s : ℕ) → i < length ys → getD ys i 0 ≡ s → List·Memᴰ s ys
 at-mem [] i s h e = absurd (not-suc-le-zero h)
 at-mem (y ∷ ys) zero s h e = List·Memᴰ·head (sym e)
 at-mem (y ∷ ys) (suc i) s h e = List·Memᴰ·tail (at-mem ys i s (omega arith) e)

@@ -23,7 +23,7 @@ fields (n ∷ ns) = field n ++ fields ns
 
 -- the weights from zone 0 on
 abbrev pub weightList : ZoneWeights → List ℕ
-weightList w = w .s ∷ w .a1 ∷ w .b1 ∷ w .c1 ∷ w .c2 ∷ w .b2 ∷ w .a2 ∷ []
+weightList w = w .s ∷ w .a1 ∷ w .b1 ∷ w .c1 ∷ w .c2 ∷ w .b2 ∷ w .a2 ∷ w .c0 ∷ []
 
 -- the bytes of a line: its keyword, its fields, and LF
 abbrev pub bytesOf : Line → List ℕ

@@ -23,6 +23,7 @@ zoneWeights w = record {
   c2 = getD w 4 0;
   b2 = getD w 5 0;
   a2 = getD w 6 0;
+  c0 = getD w 7 0;
 }
 
 -- n fields more, behind those that gave the weights w, and LF

@@ -9,7 +9,7 @@ use rules::ZONES;
 ghost use mathlib.Core.Path.{_≡_};
 ghost use Rattle.text.specs.Line.{zoneWeights, weightsFrom, ruleFrom, horizonFrom, chartFrom, pointFrom};
 ghost use Rattle.text.specs.Line.{lineAt, ruleLineAt};
-ghost use Rattle.text.specs.Format.{nextOf};
+ghost use Rattle.text.specs.Format.{nextOf, weightList};
 
 // A weight for each zone, from zone 0 on. An enum can hold no array.
 pub struct ZoneWeights {
@@ -20,6 +20,7 @@ pub struct ZoneWeights {
     pub c2: u32,
     pub b2: u32,
     pub a2: u32,
+    pub c0: u32,
 }
 
 // A line of either program, with the offset of the line behind it. `Other` is every line that is none of these or cannot be read.
@@ -74,7 +75,15 @@ fn zone_weights(w: [u32; ZONES]) -> ZoneWeights
         c2: w[4],
         b2: w[5],
         a2: w[6],
+        c0: w[7],
     }
+}
+
+// The weights from zone 0 on.
+pub fn weight_array(w: ZoneWeights) -> [u32; ZONES]
+    ensures { λ r. ⌜ r ≡ weightList w ⌝ }
+{
+    [w.s, w.a1, w.b1, w.c1, w.c2, w.b2, w.a2, w.c0]
 }
 
 // What follows the keyword of a weights line: a field for each zone.

@@ -17,7 +17,7 @@ pub fn signal_at_third() {
     );
 }
 
-// Both are quiet: rules 2 and 4 remember the first, and rule 6 both.
+// Both are quiet: rules 2 and 4 remember the first; rule 6 forgets it, since the second is on the centre line.
 pub fn all_taken() {
     let list = RuleList::western_electric();
     batch(b"121, 100:", list, Monitor::fresh(), 10, &[121, 100]);
@@ -31,13 +31,13 @@ pub fn full_at_second() {
         count: 4294967294,
     };
     batch(
-        b"100, 90, one point before the last:",
+        b"101, 90, one point before the last:",
         list,
         nearly,
         10,
-        &[100, 90],
+        &[101, 90],
     );
-    batch(b"100, one point before the last:", list, nearly, 10, &[100]);
+    batch(b"101, one point before the last:", list, nearly, 10, &[101]);
 }
 
 // 2,2,6 and 2,3,6 hold together at the second point.

@@ -52,7 +52,7 @@ pub fn one_reading() {
 
 pub fn order() {
     let bounds = pair(Rule::new(1, 1, 1), Rule::new(2, 1, 0), 2);
-    let zones = pair(Rule::new(1, 1, 1), Rule::new(1, 1, 128), 2);
+    let zones = pair(Rule::new(1, 1, 1), Rule::new(1, 1, 256), 2);
     batch(b"3 before 4 and 1:", bounds, UNMET, 0, &[]);
     batch(b"4 before 1:", zones, UNMET, 0, &[]);
     batch(b"1 before 5:", RuleList::duncan(), UNMET, 0, &[]);

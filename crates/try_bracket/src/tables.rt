@@ -39,7 +39,7 @@ pub fn listing() {
     let mut survival = [0u64; 4];
     let answer = table::run_length_table(
         one_rule(),
-        [0, 536870912, 0, 0, 536870912, 0, 0],
+        [0, 536870912, 0, 0, 536870912, 0, 0, 0],
         4,
         &mut pmf,
         &mut survival,
@@ -47,7 +47,7 @@ pub fn listing() {
     every_percent(&pmf, states_of(answer));
 }
 
-// The normal area of each zone in units of 2^-30, to the nearest; S is what is missing from 2^30.
+// The normal area of each zone in units of 2^-30, to the nearest; S is what is missing from 2^30, and C0 has none.
 fn in_control() -> [u32; ZONES] {
     [
         2898884,
@@ -57,6 +57,7 @@ fn in_control() -> [u32; ZONES] {
         366516130,
         145927014,
         22978326,
+        0,
     ]
 }
 

@@ -45,7 +45,7 @@ fn length(name: &[u8], len: u32) {
         rules: [Rule {
             k: 9,
             m: 9,
-            zones: 127,
+            zones: 255,
         }; RuleList::MAX_RULES as usize],
         len,
     };
@@ -84,8 +84,9 @@ fn of_windows() {
 
 fn of_zone_sets() {
     one(b"1,1,0", 1, 1, 0);
-    one(b"1,1,127", 1, 1, 127);
     one(b"1,1,128", 1, 1, 128);
+    one(b"1,1,255", 1, 1, 255);
+    one(b"1,1,256", 1, 1, 256);
     one(b"1,1,4294967295", 1, 1, 4294967295);
 }
 

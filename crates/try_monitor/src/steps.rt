@@ -67,8 +67,8 @@ const LAST: u32 = 4294967295;
 
 fn of_zones() {
     let r = Rule::new(2, 3, 2);
-    alone(b"zone 6", r, 0, 0, 6);
     alone(b"zone 7", r, 0, 0, 7);
+    alone(b"zone 8", r, 0, 0, 8);
     alone(b"zone 4294967295", r, 0, 0, LAST);
 }
 
@@ -102,7 +102,7 @@ fn of_counts() {
     alone(b"count 4294967295", r, 0, LAST, 3);
     alone(
         b"count 4294967295 where it would signal",
-        Rule::new(1, 1, 127),
+        Rule::new(1, 1, 255),
         0,
         LAST,
         0,
@@ -112,14 +112,14 @@ fn of_counts() {
 fn order() {
     let r = Rule::new(2, 3, 2);
     alone(b"count 4294967295 with a bad state", r, 3, LAST, 3);
-    alone(b"count 4294967295 with a bad zone", r, 0, LAST, 7);
-    alone(b"a bad state with a bad zone", r, 3, 9, 7);
+    alone(b"count 4294967295 with a bad zone", r, 0, LAST, 8);
+    alone(b"a bad state with a bad zone", r, 3, 9, 8);
     alone(
         b"a bad list with all of them",
         Rule::new(0, 3, 2),
         3,
         LAST,
-        7,
+        8,
     );
 }
 

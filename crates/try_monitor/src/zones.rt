@@ -13,7 +13,7 @@ fn above() {
     reading(b"120", 120, 100, 10);
     reading(b"111", 111, 100, 10);
     reading(b"110", 110, 100, 10);
-    reading(b"100", 100, 100, 10);
+    reading(b"101", 101, 100, 10);
 }
 
 fn below() {
@@ -27,6 +27,7 @@ fn below() {
 
 pub fn examples() {
     above();
+    reading(b"100", 100, 100, 10);
     below();
 }
 
@@ -37,8 +38,23 @@ fn widest() {
     reading(b"highest on lowest, sigma 65535", high, low, 65535);
     reading(b"lowest on highest, sigma 1", low, high, 1);
     reading(b"lowest on highest, sigma 65535", low, high, 65535);
+}
+
+// On the centre line at both ends, and one beside it.
+fn centres() {
+    let low: i32 = -2147483648;
+    let high: i32 = 2147483647;
     reading(b"lowest on lowest, sigma 1", low, low, 1);
+    reading(b"1 above the lowest, sigma 1", -2147483647, low, 1);
+    reading(b"lowest on 1 above it, sigma 1", low, -2147483647, 1);
     reading(b"highest on highest, sigma 65535", high, high, 65535);
+    reading(b"1 below the highest, sigma 65535", 2147483646, high, 65535);
+    reading(
+        b"highest on 1 below it, sigma 65535",
+        high,
+        2147483646,
+        65535,
+    );
 }
 
 fn limits() {
@@ -56,6 +72,7 @@ fn limits() {
 
 pub fn extremes() {
     widest();
+    centres();
     limits();
 }
 

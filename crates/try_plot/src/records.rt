@@ -27,7 +27,7 @@ fn halves() -> [u32; ZONES] {
     weights
 }
 
-// The normal area of each zone in units of 2^-30, to the nearest; S is what is missing from 2^30.
+// The normal area of each zone in units of 2^-30, to the nearest; S is what is missing from 2^30, and C0 has none.
 fn in_control() -> [u32; ZONES] {
     let mut weights = [0u32; ZONES];
     weights[0] = 2898884;

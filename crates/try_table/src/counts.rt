@@ -19,6 +19,7 @@ fn rule(k: u32, m: u32) {
     show::number(b",", m as u64);
     show::number(b" ", count(answers::one(Rule::new(k, m, 6))) as u64);
     show::number(b" ", count(answers::one(Rule::new(k, m, 127))) as u64);
+    show::number(b" ", count(answers::one(Rule::new(k, m, 255))) as u64);
     show::text(b"\n");
 }
 
@@ -44,6 +45,15 @@ fn whole(name: &[u8], list: RuleList) {
     answers::answer(table::run_length_table(list, weights(), 1, &mut pmf, &mut survival));
 }
 
+// 590 states where no point is on the centre line; over 1,024 with C0.
+fn with_centre() -> RuleList {
+    let two = answers::list_of(Rule::new(4, 6, 126), Rule::new(4, 7, 115), 4);
+    let mut rules = two.rules;
+    rules[2] = Rule::new(4, 9, 2);
+    rules[3] = Rule::new(4, 4, 57);
+    RuleList { rules, len: 4 }
+}
+
 pub fn largest() {
     whole(b"Western Electric", RuleList::western_electric());
     whole(b"Duncan", RuleList::duncan());
@@ -55,4 +65,5 @@ pub fn largest() {
         b"3,9,6 and 3,9,12",
         answers::list_of(Rule::new(3, 9, 6), Rule::new(3, 9, 12), 2),
     );
+    whole(b"4,6,126 and 4,7,115 and 4,9,2 and 4,4,57", with_centre());
 }

@@ -10,7 +10,7 @@ fn main() {
     listing::listing();
     show::text(b"rule 2,3,2 on the listing's weights\n");
     listing::two_of_three();
-    show::text(b"states of k,m on zones 1 and 2, and on all zones\n");
+    show::text(b"states of k,m on zones 1 and 2, on all but C0, and on all zones\n");
     counts::every_rule();
     show::text(b"the largest lists\n");
     counts::largest();
