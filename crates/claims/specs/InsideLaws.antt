@@ -1,6 +1,6 @@
 -- A chain inside a larger one that has one zone more, of weight 0: the larger one's other states never have a unit, and
 -- the rounded figures of the two are the same. Laws.
-use Prim.Native.Nat.{ℕ, zero, suc, _+_, _*_, _/_, _≤_, _<_}
+use Prim.Native.Nat.{ℕ, zero, suc, _+_, _*_, _/_, _<_}
 use mathlib.Core.Path.{_≡_, refl, sym, ap, _∙_}
 use mathlib.Core.Bool.{Bool, true, false, cond}
 use mathlib.Core.List.{List}
@@ -12,10 +12,11 @@ use borrow.Author.Tests.{eq-eqb, ne-eqb, eqb-false}
 use Rattle.runlength.specs.Scale.{weightTotal, unitsPerOne}
 use Rattle.runlength.specs.Sum.{sum, only}
 use Rattle.runlength.specs.SumLaws.{sum-cong, sum-none, sum-point}
-use Rattle.runlength.specs.Automaton.{Automaton, Move, quiet, signal, after}
+use Rattle.runlength.specs.Automaton.{Move, quiet, signal, after}
 use Rattle.runlength.specs.Chain.{Chain, inflow, signalled, units, pmf, survival}
 use Rattle.runlength.specs.Listed.{listedAutomaton, listedChain}
 use Rattle.runlength.specs.Future.{Alike}
+use Rattle.states.specs.PlaceLaws.{same-test}
 
 pub only-none : (b : Bool) → only b 0 ≡ 0
 only-none true = refl
@@ -81,15 +82,6 @@ module _ {k n m : ℕ} {large small : List ℕ} {φ : ℕ → ℕ} (p : Inside k
   abbrev D : Chain
   D = listedChain k m small w
 
-  -- different places are told apart
-  same-test : (i j : ℕ) → i < m → j < m → eqb (φ i) (φ j) ≡ eqb i j
-  same-test i j h l = go (decLt i j) (decLt j i)
-    where
-      go : Dec (i < j) → Dec (j < i) → eqb (φ i) (φ j) ≡ eqb i j
-      go (yes x) d = ne-eqb (φ i) (φ j) (λ e. p .apart i j x l e) ∙ sym (ne-eqb i j (λ e. omega arith))
-      go (no x) (yes y) = ne-eqb (φ i) (φ j) (λ e. p .apart j i y h (sym e)) ∙ sym (ne-eqb i j (λ e. omega arith))
-      go (no x) (no y) = let e : i ≡ j = omega arith in eq-eqb (φ i) (φ j) (ap φ e) ∙ sym (eq-eqb i j e)
-
   -- units u of the larger chain and v of the smaller: the same at the places, and none elsewhere
   record Held (u v : ℕ → ℕ) : Type 0 where
     same : (i : ℕ) → i < m → u (φ i) ≡ v i
@@ -115,7 +107,7 @@ module _ {k n m : ℕ} {large small : List ℕ} {φ : ℕ → ℕ} (p : Inside k
     to-place : (t : ℕ) → t < m → (x : ℕ) (a b : Move ℕ) → Placed φ m a b
         → after a 0 (λ r. only (eqb r (φ t)) x) ≡ after b 0 (λ r. only (eqb r t) x)
     unfolding Alike
-    to-place t l x (quiet i) (quiet j) o = ap (λ b. only b x) (ap (λ y. eqb y (φ t)) (o .1) ∙ same-test j t (o .0) l)
+    to-place t l x (quiet i) (quiet j) o = ap (λ b. only b x) (ap (λ y. eqb y (φ t)) (o .1) ∙ same-test φ m (p .apart) j t (o .0) l)
     to-place t l x (quiet i) signal o = absurd o
     to-place t l x signal (quiet j) o = absurd o
     to-place t l x signal signal o = refl
@@ -164,7 +156,7 @@ module _ {k n m : ℕ} {large small : List ℕ} {φ : ℕ → ℕ} (p : Inside k
   held : (c : ℕ) → Held (units C c) (units D c)
   unfolding units
   held zero = record {
-    same = λ i h. ap (λ b. only b unitsPerOne) (ap (λ y. eqb y (φ i)) (sym (p .first)) ∙ same-test 0 i (p .some) h);
+    same = λ i h. ap (λ b. only b unitsPerOne) (ap (λ y. eqb y (φ i)) (sym (p .first)) ∙ same-test φ m (p .apart) 0 i (p .some) h);
     none = λ s h d. ap (λ b. only b unitsPerOne) (ne-eqb 0 s (λ e. d 0 (p .some) (p .first ∙ e)));
   }
   held (suc c) = record {

@@ -1,8 +1,7 @@
 -- The states that the seven zones below C0 meet are among those that all eight meet; so the table of the seven is
 -- inside that of the eight. Laws.
-use Prim.Native.Nat.{ℕ, suc, _+_, _≤_, _<_}
+use Prim.Native.Nat.{ℕ, _≤_, _<_}
 use mathlib.Core.Path.{_≡_, refl, sym, ap, _∙_}
-use mathlib.Core.Logic.{⊎-elim}
 use mathlib.Core.List.{List}
 use native.Mathlib.Omega.{arith}
 use native.Mathlib.Decide.{decLt}
@@ -10,28 +9,19 @@ use lib.ListN.{length}
 use Rattle.rules.specs.declared.Rule.{Rule}
 use Rattle.rules.specs.Bounds.{maxStates}
 use Rattle.runlength.specs.Sum.{at}
-use Rattle.runlength.specs.Automaton.{Automaton, Move, quiet, signal}
+use Rattle.runlength.specs.Automaton.{Move, quiet, signal}
 use Rattle.runlength.specs.Future.{Alike}
 use Rattle.monitor.specs.Zone.{zoneC0}
 use Rattle.states.specs.States.{Met, start, more, placeOf, states, moves}
 use Rattle.states.specs.Automata.{stateAutomaton}
-use Rattle.states.specs.Places.{Distinct, At, DifferentMet}
-use Rattle.states.specs.PlaceLaws.{place-at, place-none}
+use Rattle.states.specs.Places.{At, DifferentMet}
+use Rattle.states.specs.PlaceLaws.{same-place, place-at, place-none}
 use Rattle.states.specs.StatesLaws.{states-some, states-first, states-distinct, states-met, states-all}
 use Rattle.states.specs.StatesLaws.{explored-simulation}
 use Rattle.states.specs.CountLaws.{at-mem, pigeonhole, states-too-many}
-use Rattle.table.specs.TableChain.{exploredCount, stateCount, chainMoves}
+use Rattle.table.specs.TableChain.{exploredCount}
 use Rattle.claims.specs.Centre.{withoutCentre}
 use Rattle.claims.specs.InsideLaws.{Placed, Inside}
-
--- places that hold the same are the same
-same-place : {xs : List ℕ} → Distinct xs → (i j : ℕ) → i < length xs → j < length xs → at xs i ≡ at xs j → i ≡ j
-same-place d i j h l e = go (decLt i j) (decLt j i)
-  where
-    go : Dec (i < j) → Dec (j < i) → i ≡ j
-    go (yes x) y = absurd (d .apart i j x l e)
-    go (no x) (yes y) = absurd (d .apart j i y h (sym e))
-    go (no x) (no y) = omega arith
 
 module _ (rs : List Rule) (few : exploredCount rs ≤ maxStates) where
   -- all that is met, and what is met with no point in C0
@@ -60,6 +50,10 @@ module _ (rs : List Rule) (few : exploredCount rs ≤ maxStates) where
           record { distinct = o .2 .distinct; all-met = record { met = λ i l. also-met (o .2 .all-met .met i l) } } in
           absurd (omega (arith, few-all, states-too-many (stateAutomaton rs) .1 (o .0, o .1, d)))
 
+  -- places that hold the same state are the same
+  one-place : (i j : ℕ) → i < length all → j < length all → at all i ≡ at all j → i ≡ j
+  one-place = same-place (at all) (length all) (states-distinct (stateAutomaton rs) .apart)
+
   -- the place among all of a state that is met with no point in C0
   abbrev place : ℕ → ℕ
   place i = placeOf (at own i) all
@@ -86,7 +80,7 @@ module _ (rs : List Rule) (few : exploredCount rs ≤ maxStates) where
   both (quiet x) (quiet y) (quiet t) p q =
       let o = placed y (q .below) in
       let e = p .is ∙ sym (q .is) ∙ sym (o .is) in
-      (q .below, same-place (states-distinct (stateAutomaton rs)) x (place y) (p .below) (o .below) e)
+      (q .below, one-place x (place y) (p .below) (o .below) e)
   both (quiet x) (quiet y) signal p q = absurd p
   both (quiet x) signal (quiet t) p q = absurd q
   both (quiet x) signal signal p q = absurd p
@@ -105,7 +99,7 @@ module _ (rs : List Rule) (few : exploredCount rs ≤ maxStates) where
         states-distinct (withoutCentre rs) .apart i j l h (sym (o .is) ∙ ap (at all) e ∙ q .is);
     first =
         let o = placed 0 (states-some (withoutCentre rs)) in
-        same-place (states-distinct (stateAutomaton rs)) (place 0) 0 (o .below) (states-some (stateAutomaton rs))
+        one-place (place 0) 0 (o .below) (states-some (stateAutomaton rs))
         (o .is ∙ states-first (withoutCentre rs) ∙ sym (states-first (stateAutomaton rs)));
     moves = λ i z h l.
         both _ _ _

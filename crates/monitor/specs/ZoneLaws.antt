@@ -1,8 +1,9 @@
 -- Laws of the offset of a reading: two signed numbers, each 2^31 higher, have the same difference.
 use mathlib.Core.Path.{_≡_, refl, sym, ap, _∙_}
 use mathlib.Core.Bool.{Bool, true, false, cond}
-use Prim.Native.Nat.{ℕ, zero, suc, _+_, _-_, _*_, _≤_, _<_, _^_}
+use Prim.Native.Nat.{ℕ, zero, suc, _+_, _-_, _*_, _<_, _^_}
 use native.Mathlib.Omega.{arith}
+use native.Mathlib.Nat.{ne-of-lt}
 use lib.IntN.{ℤ, pos, negsuc, _+ℤ_, _-ℤ_, negℤ, negℤ-+ℤ, +ℤ-assoc, +ℤ-comm, +ℤ-invr, +ℤ-idl}
 use lib.Signed.{mag}
 use lib.Dec.{leb}
@@ -77,7 +78,8 @@ module _ (reading centre : ℤ) (sigma : ℕ) where
 
 band-below : (bound sigma distance one two three : ℕ) → zoneS < bound → one < bound → two < bound → three < bound
     → band sigma distance one two three < bound
-band-below bound sigma distance one two three o p q r = go (leb distance sigma) (leb distance (2 * sigma)) (leb distance (3 * sigma))
+band-below bound sigma distance one two three o p q r =
+    go (leb distance sigma) (leb distance (2 * sigma)) (leb distance (3 * sigma))
   where
     go : (x y z : Bool) → cond x one (cond y two (cond z three zoneS)) < bound
     go true y z = p
@@ -86,10 +88,12 @@ band-below bound sigma distance one two three o p q r = go (leb distance sigma) 
     go false false false = o
 
 above-below : (bound sigma n : ℕ) → zoneC1 < bound → band sigma (suc n) zoneC1 zoneB1 zoneA1 < bound
-above-below bound sigma n h = band-below bound sigma (suc n) zoneC1 zoneB1 zoneA1 (omega arith) (omega arith) (omega arith) (omega arith)
+above-below bound sigma n h =
+    band-below bound sigma (suc n) zoneC1 zoneB1 zoneA1 (omega arith) (omega arith) (omega arith) (omega arith)
 
 below-below : (bound sigma n : ℕ) → zoneA2 < bound → band sigma (suc n) zoneC2 zoneB2 zoneA2 < bound
-below-below bound sigma n h = band-below bound sigma (suc n) zoneC2 zoneB2 zoneA2 (omega arith) (omega arith) (omega arith) (omega arith)
+below-below bound sigma n h =
+    band-below bound sigma (suc n) zoneC2 zoneB2 zoneA2 (omega arith) (omega arith) (omega arith) (omega arith)
 
 pub zone-exists : (t : ℤ) (sigma : ℕ) → zoneAt t sigma < zoneCount
 zone-exists (pos zero) sigma = omega arith
@@ -98,10 +102,7 @@ zone-exists (negsuc n) sigma = below-below zoneCount sigma n (omega arith)
 
 -- ---- C0 is the offset 0 alone
 
-not-both : {A : Type 0} {a b : ℕ} → a < b → a ≡ b → A
-not-both h e = absurd (omega arith)
-
 pub centre-alone : (t : ℤ) (sigma : ℕ) → zoneAt t sigma ≡ zoneC0 → t ≡ pos 0
 centre-alone (pos zero) sigma e = refl
-centre-alone (pos (suc n)) sigma e = not-both (above-below zoneC0 sigma n (omega arith)) e
-centre-alone (negsuc n) sigma e = not-both (below-below zoneC0 sigma n (omega arith)) e
+centre-alone (pos (suc n)) sigma e = absurd (ne-of-lt (above-below zoneC0 sigma n (omega arith)) e)
+centre-alone (negsuc n) sigma e = absurd (ne-of-lt (below-below zoneC0 sigma n (omega arith)) e)

@@ -5,6 +5,7 @@ use mathlib.Core.Bool.{Bool, true, false, cond}
 use mathlib.Core.List.{List, [], _∷_, _++_}
 use native.Mathlib.Omega.{arith}
 use native.Mathlib.Nat.{le-refl, not-suc-le-zero, mod-lt, mod-eq-of-lt, div-eq-of-lt, div-lt-iff-lt-mul, mul-add-div, mul-add-mod-self-left, mul-le-mul-left}
+use native.Mathlib.Decide.{decLt}
 use native.Mathlib.Numerals.{add-one}
 use borrow.Author.Count.{below-more}
 use borrow.Author.Tests.{eq-eqb, ne-eqb, eqb-true, eqb-false}
@@ -74,6 +75,27 @@ place-none t (x ∷ xs) h i l q = go (eqb x t) refl (place-none t xs) i h l q
     go true e ih i h l q = omega arith
     go false e ih zero h l q = eqb-false x t e q
     go false e ih (suc i) h l q = ih (omega arith) i (omega arith) q
+
+-- ---- different places
+
+-- f takes different places below n to different numbers
+module _ (f : ℕ → ℕ) (n : ℕ) (apart : (i j : ℕ) → i < j → j < n → f i ≡ f j → ⊥) where
+  -- so it takes only the same place to the same number
+  pub same-place : (i j : ℕ) → i < n → j < n → f i ≡ f j → i ≡ j
+  same-place i j h l e = go (decLt i j) (decLt j i)
+    where
+      go : Dec (i < j) → Dec (j < i) → i ≡ j
+      go (yes x) y = absurd (apart i j x l e)
+      go (no x) (yes y) = absurd (apart j i y h (sym e))
+      go (no x) (no y) = omega arith
+
+  -- and a test of two numbers is one of their places
+  pub same-test : (i j : ℕ) → i < n → j < n → eqb (f i) (f j) ≡ eqb i j
+  same-test i j h l = go (eqb i j) refl
+    where
+      go : (b : Bool) → eqb i j ≡ b → eqb (f i) (f j) ≡ b
+      go true e = eq-eqb (f i) (f j) (ap f (eqb-true i j e))
+      go false e = ne-eqb (f i) (f j) (λ q. eqb-false i j e (same-place i j h l q))
 
 -- ---- one more at the end
 

@@ -3,10 +3,8 @@ use mathlib.Core.Path.{_≡_, refl, sym, ap, _∙_}
 use mathlib.Core.List.{List, []}
 use Prim.Native.Nat.{ℕ, zero, suc, _*_, _/_, _≤_, _<_}
 use native.Mathlib.Omega.{arith}
-use native.Mathlib.Decide.{decLt}
 use lib.Dec.{eqb}
 use lib.ListN.{length}
-use borrow.Author.Tests.{eq-eqb, ne-eqb}
 use Rattle.rules.specs.declared.Rule.{Rule}
 use Rattle.rules.specs.Bounds.{zoneCount, maxStates}
 use Rattle.rules.specs.InBounds.{AllInBounds}
@@ -21,6 +19,7 @@ use Rattle.states.specs.States.{states}
 use Rattle.states.specs.Automata.{stateAutomaton, referenceAutomaton}
 use Rattle.states.specs.AutomataLaws.{explored-reference}
 use Rattle.states.specs.Places.{At}
+use Rattle.states.specs.PlaceLaws.{same-test}
 use Rattle.states.specs.StatesLaws.{states-some, states-first, states-distinct, explored-simulation}
 use Rattle.table.specs.TableChain.{exploredCount, stateCount, chainMoves, tableAutomaton, tableChain}
 use Rattle.table.specs.ByState.{overStates, stateInflow, stateSignalled, stateUnits}
@@ -61,16 +60,8 @@ module _ (rs : List Rule) where
     standing i l = record { below = l; is = refl }
 
     -- different places hold different states
-    same-test : (i j : ℕ) → i < length met → j < length met → eqb i j ≡ eqb (at met i) (at met j)
-    same-test i j k l = go (decLt i j) (decLt j i)
-      where
-        apart : (a b : ℕ) → a < b → b < length met → at met a ≡ at met b → ⊥
-        apart a b h m e = states-distinct (stateAutomaton rs) .apart a b h m e
-
-        go : Dec (i < j) → Dec (j < i) → eqb i j ≡ eqb (at met i) (at met j)
-        go (yes h) d = ne-eqb i j (λ e. omega arith) ∙ sym (ne-eqb (at met i) (at met j) (λ e. apart i j h l e))
-        go (no h) (yes g) = ne-eqb i j (λ e. omega arith) ∙ sym (ne-eqb (at met i) (at met j) (λ e. apart j i g k (sym e)))
-        go (no h) (no g) = let e : i ≡ j = omega arith in eq-eqb i j e ∙ sym (eq-eqb (at met i) (at met j) (ap (at met) e))
+    by-state : (i j : ℕ) → i < length met → j < length met → eqb i j ≡ eqb (at met i) (at met j)
+    by-state i j k l = sym (same-test (at met) (length met) (states-distinct (stateAutomaton rs) .apart) i j k l)
 
     -- a move of a place is that of its state
     moved : (i z : ℕ) → i < length met → z < zoneCount → Alike (At met) (tableAutomaton rs .move i z) (stateAutomaton rs .move (at met i) z)
@@ -81,7 +72,7 @@ module _ (rs : List Rule) where
     to-state : (t : ℕ) → t < length met → (x : ℕ) (m k : Move ℕ) → Alike (At met) m k
         → after m 0 (λ r. only (eqb r t) x) ≡ after k 0 (λ r. only (eqb r (at met t)) x)
     unfolding Alike
-    to-state t l x (quiet i) (quiet s) p = ap (λ b. only b x) (same-test i t (p .below) l ∙ ap (λ y. eqb y (at met t)) (p .is))
+    to-state t l x (quiet i) (quiet s) p = ap (λ b. only b x) (by-state i t (p .below) l ∙ ap (λ y. eqb y (at met t)) (p .is))
     to-state t l x (quiet i) signal p = absurd p
     to-state t l x signal (quiet s) p = absurd p
     to-state t l x signal signal p = refl
@@ -99,7 +90,7 @@ module _ (rs : List Rule) where
       unfolding units stateUnits stateInflow overStates inflow stateCount tableAutomaton
       chain-units zero i l =
           ap (λ b. only b unitsPerOne)
-          (same-test 0 i (states-some (stateAutomaton rs)) l ∙ ap (λ y. eqb y (at met i)) (states-first (stateAutomaton rs)))
+          (by-state 0 i (states-some (stateAutomaton rs)) l ∙ ap (λ y. eqb y (at met i)) (states-first (stateAutomaton rs)))
       chain-units (suc n) i l =
           ap (λ x. x / weightTotal)
           (sum-cong (length met) _ _ (λ s k. sum-cong zoneCount _ _ (λ z h.
