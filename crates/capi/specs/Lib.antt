@@ -12,4 +12,6 @@ pub mod BatchCallLaws
 pub mod PlotCall
 pub mod PlotCallLaws
 pub mod ReportCall
+pub mod ShiftCall
+pub mod ShiftCallLaws
 pub mod ReportCallLaws

@@ -6,6 +6,7 @@ mod lists;
 mod monitors;
 mod plots;
 mod reports;
+mod shifts;
 pub mod sizes;
 mod tables;
 
@@ -18,4 +19,6 @@ pub use monitors::catrovindy_zone;
 pub use plots::catrovindy_plot;
 pub use reports::catrovindy_monitor_report;
 pub use reports::catrovindy_table_report;
+pub use reports::catrovindy_weights_report;
+pub use shifts::catrovindy_shift_weights;
 pub use tables::catrovindy_table;

@@ -1,9 +1,10 @@
-// The two programs' reports for callers in C and Rust.
+// The programs' reports for callers in C and Rust.
 use crate::codes::code;
 use report::ReportAnswer;
 ghost use mathlib.Core.Path.{_≡_};
 ghost use Rattle.report.specs.TableReport.{tablePrinted};
 ghost use Rattle.report.specs.MonitorReport.{monitorPrinted};
+ghost use Rattle.report.specs.WeightsReport.{weightsPrinted};
 ghost use Rattle.capi.specs.ReportCall.{answerCode, answerCount, ReportCall};
 
 // The code of a report's answer, and its number of bytes in `bytes`.
@@ -44,5 +45,19 @@ pub extern "C" fn catrovindy_monitor_report(
     ensures { λ r. ⌜ ReportCall (monitorPrinted (now (text .entry))) (now (out .entry)) (now (bytes .entry)) (now (out .exit)) (now (bytes .exit)) r ⌝ }
 {
     let answer = report::monitor_report(text, out);
+    report_code(answer, bytes)
+}
+
+// The weights program's line for a text: `report::weights_report`. Answers 0, with the line in `out` and its number of bytes in `bytes`; or
+// answers the refusal and alters nothing.
+#[no_mangle]
+pub extern "C" fn catrovindy_weights_report(
+    text: &[u8],
+    out: &mut [u8; ReportAnswer::WEIGHTS_SIZE],
+    bytes: &mut [u64; 1],
+) -> u64
+    ensures { λ r. ⌜ ReportCall (weightsPrinted (now (text .entry))) (now (out .entry)) (now (bytes .entry)) (now (out .exit)) (now (bytes .exit)) r ⌝ }
+{
+    let answer = report::weights_report(text, out);
     report_code(answer, bytes)
 }

@@ -15,5 +15,6 @@ pub mod InsideLaws
 pub mod WithoutCentreLaws
 pub mod CentreLine
 pub mod EightZones
+pub mod ShiftedCore
 pub mod Marked
 pub mod BoxPlot

@@ -1,4 +1,4 @@
-// What both programs read from standard input and write to standard output, and what they say of an error on standard error.
+// What the programs read from standard input and write to standard output, and what they say of an error on standard error.
 mod input;
 mod written;
 

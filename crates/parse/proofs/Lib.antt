@@ -3,3 +3,4 @@ mod PointTurns
 mod PartCases
 mod TableCases
 mod MonitorCases
+mod ShiftCases

@@ -6,10 +6,10 @@ use native.Mathlib.Omega.{arith}
 use lib.ListN.{length}
 use borrow.Author.Tests.{le-leb, lt-leb}
 use Rattle.rules.specs.Refusal.{refusal, notRefused, badLine, tooLong}
-use Rattle.text.specs.declared.lines.ZoneWeights.{ZoneWeights}
+use Rattle.rules.specs.declared.weights.ZoneWeights.{ZoneWeights}
 use Rattle.text.specs.declared.lines.Line.{Line}
 use Rattle.text.specs.declared.lines.Line.the-variants.{Weights, Horizon}
-use Rattle.text.specs.Format.{weightList}
+use Rattle.rules.specs.Weights.{weightList}
 use Rattle.text.specs.Line.{lineAt}
 use Rattle.text.specs.Kind.{weights, horizon, NotOf}
 use Rattle.text.specs.KindLaws.{weights-passed, horizon-passed}

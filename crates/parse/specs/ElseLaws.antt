@@ -4,8 +4,8 @@ use types.Run.{OneOf, miss}
 use denote.Enum.Declared.{tagOf}
 use Rattle.text.specs.declared.lines.Line.{Line}
 use Rattle.text.specs.declared.lines.RuleLine.{RuleLine}
-use Rattle.text.specs.Kind.{weights, horizon, chart, point, NotOf, tagsBut, ruleTagsBut}
-use Rattle.text.specs.KindLaws.{weights-or-none, horizon-or-none, chart-or-none, point-or-none}
+use Rattle.text.specs.Kind.{weights, horizon, chart, point, shift, NotOf, tagsBut, ruleTagsBut}
+use Rattle.text.specs.KindLaws.{weights-or-none, horizon-or-none, chart-or-none, point-or-none, shift-or-none}
 use Rattle.text.proofs.lines.Line.{the-type}
 use Rattle.text.proofs.lines.RuleLine.{the-type as rule-type}
 
@@ -21,6 +21,9 @@ module _ (l : Line) where
 
   pub else-point : OneOf (tagsBut point) (tagOf the-type l) → NotOf point l
   else-point t = point-or-none l (λ x next e. absurd (miss (tagsBut point) _ tt (rw e at t))) (λ n. n)
+
+  pub else-shift : OneOf (tagsBut shift) (tagOf the-type l) → NotOf shift l
+  else-shift t = shift-or-none l (λ x next e. absurd (miss (tagsBut shift) _ tt (rw e at t))) (λ n. n)
 
 -- a rule line that is neither absent nor a rule
 pub else-unreadable : (r : RuleLine) → OneOf (ruleTagsBut 0) (tagOf rule-type r)

@@ -6,3 +6,4 @@ pub mod Readings
 pub mod ReadingsLaws
 pub mod Parts
 pub mod MonitorText
+pub mod ShiftText

@@ -1,4 +1,4 @@
--- The parts of a text of either program. Working definitions.
+-- The parts of a text of any program. Working definitions.
 use Prim.Native.Nat.{ℕ}
 use mathlib.Core.List.{List}
 use Rattle.text.specs.declared.lines.Line.{Line}

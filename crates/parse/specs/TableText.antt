@@ -7,8 +7,8 @@ use lib.Dec.{leb}
 use Rattle.rules.specs.declared.Rule.{Rule}
 use Rattle.rules.specs.declared.refusal.Refusal.{Refusal}
 use Rattle.rules.specs.Bounds.{zoneCount}
-use Rattle.text.specs.declared.lines.ZoneWeights.{ZoneWeights}
-use Rattle.text.specs.Format.{weightList}
+use Rattle.rules.specs.declared.weights.ZoneWeights.{ZoneWeights}
+use Rattle.rules.specs.Weights.{weightList}
 use Rattle.text.specs.Line.{lineAt}
 use Rattle.text.specs.OnLine.{onWeights, onHorizon}
 use Rattle.parse.specs.declared.tables.TableText.{TableText}

@@ -3,9 +3,12 @@ mod monitors;
 mod parts;
 mod point_lines;
 mod rule_lines;
+mod shifts;
 mod tables;
 
 pub use monitors::MonitorText;
 pub use monitors::monitor_text;
+pub use shifts::ShiftText;
+pub use shifts::shift_text;
 pub use tables::TableText;
 pub use tables::table_text;

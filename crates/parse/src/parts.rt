@@ -1,4 +1,4 @@
-// The parts of a text of either program, read by one reader.
+// The parts of a text of any program, read by one reader.
 use crate::point_lines::PointsRead;
 use crate::point_lines::points;
 use crate::rule_lines::RulesRead;

@@ -7,3 +7,5 @@ pub mod RowLineLaws
 pub mod PercentLine
 pub mod PercentLineLaws
 pub mod TableLines
+pub mod WeightLine
+pub mod Fielded

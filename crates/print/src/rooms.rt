@@ -1,4 +1,5 @@
 // The most bytes that each line has, and all the lines of a program: words, commas, LF, and numbers of so many digits.
+use rules::ZONES;
 use text::NUMBER_ROOM;
 
 // The largest horizon of the table program.
@@ -30,6 +31,9 @@ pub const POINT_ROOM: usize = 6 + 2 * FIELD + 1;
 
 // `total`, two fields, LF.
 pub const TOTAL_ROOM: usize = 5 + 2 * FIELD + 1;
+
+// `weights`, a field for each zone, LF.
+pub const WEIGHTS_ROOM: usize = 7 + ZONES * FIELD + 1;
 
 // `refused`, two fields, LF.
 pub const REFUSED_ROOM: usize = 7 + 2 * FIELD + 1;

@@ -8,10 +8,11 @@ use Rattle.rules.specs.declared.Checked.{Checked}
 use Rattle.rules.specs.declared.Checked.the-variants.{Accepted, Refused}
 use Rattle.rules.specs.Numbers.{OneOf}
 use Rattle.rules.specs.Refusal.{badSigma, badRuleCount, badRuleBounds, badZoneSet, badState, badZone, badCount, shortList}
-use Rattle.rules.specs.Refusal.{badListLength, badStateCount, badPercent, badTotal}
+use Rattle.rules.specs.Refusal.{badListLength, badStateCount, badPercent, badTotal, badShift}
 use Rattle.monitor.specs.declared.zone.ZoneAnswer.{ZoneAnswer}
 use Rattle.monitor.specs.declared.Step.{Step}
 use Rattle.bracket.specs.declared.BracketAnswer.{BracketAnswer}
+use Rattle.shift.specs.declared.ShiftAnswer.{ShiftAnswer}
 use Rattle.report.specs.Printed.{Printed, lines, refusedBy}
 use Rattle.capi.specs.Codes.{numberOf, placeOf}
 use Rattle.program_claims.specs.Programs.{chartNumbers}
@@ -43,11 +44,15 @@ abbrev pub bracketChecked : BracketAnswer → Checked
 bracketChecked (BracketAnswer.Accepted place) = Accepted
 bracketChecked (BracketAnswer.Refused x) = Refused x
 
+abbrev pub shiftChecked : ShiftAnswer → Checked
+shiftChecked (ShiftAnswer.Accepted w) = Accepted
+shiftChecked (ShiftAnswer.Refused x) = Refused x
+
 abbrev pub printedChecked : Printed → Checked
 printedChecked (lines bytes) = Accepted
 printedChecked (refusedBy x) = Refused x
 
--- ---- the numbers of each function; those of the reports are `tableNumbers` and `monitorNumbers` of PrintedOnce
+-- ---- the numbers of each function; those of the reports stand in NumbersPrinted
 
 abbrev pub zoneNumbers : List ℕ
 zoneNumbers = badSigma .number ∷ []
@@ -64,3 +69,6 @@ listNumbers = shortList .number ∷ chartNumbers
 
 abbrev pub bracketNumbers : List ℕ
 bracketNumbers = badListLength .number ∷ badStateCount .number ∷ badPercent .number ∷ badTotal .number ∷ []
+
+abbrev pub shiftNumbers : List ℕ
+shiftNumbers = badShift .number ∷ []

@@ -5,14 +5,14 @@ use mathlib.Core.Bool.{Bool, true, false, cond}
 use mathlib.Core.List.{List, [], _∷_}
 use native.Mathlib.Omega.{arith}
 use lib.Dec.{leb, ltb}
-use lib.IntN.{ℤ, _-ℤ_}
+use lib.IntN.{ℤ, natAbs, _-ℤ_}
 use lib.ListN.{length}
 use Rattle.rules.specs.declared.RuleList.{RuleList}
 use Rattle.rules.specs.declared.refusal.Refusal.{Refusal}
 use Rattle.rules.specs.declared.Checked.{Checked}
 use Rattle.rules.specs.declared.Checked.the-variants.{Accepted, Refused}
 use Rattle.rules.specs.Bounds.{zoneCount, maxNumber, maxStates}
-use Rattle.rules.specs.Refusal.{badSigma, badState, badZone, badCount, shortList, badListLength, badStateCount, badPercent, badTotal}
+use Rattle.rules.specs.Refusal.{badSigma, badState, badZone, badCount, shortList, badListLength, badStateCount, badPercent, badTotal, badShift}
 use Rattle.rules.specs.Check.{within, unless, activeRules, checkOf}
 use Rattle.rules.specs.CheckLaws.{between}
 use Rattle.rules.specs.Numbers.{OneOf, here, there, ruleNumbers}
@@ -34,6 +34,8 @@ use Rattle.runlength.specs.Scale.{minHorizon, maxHorizon, unitsPerOne}
 use Rattle.bracket.specs.Limits.{minStates, minPercent, maxPercent}
 use Rattle.runlength.specs.Chain.{cdfOf}
 use Rattle.bracket.specs.Bracket.{percentilePlace, bracketOf}
+use Rattle.shift.specs.declared.ShiftAnswer.{ShiftAnswer}
+use Rattle.shift.specs.Shift.{maxShift, weightsOf, shiftOf}
 use Rattle.summary.specs.Summary.{summarized, summaryOf}
 use Rattle.plot.specs.Plot.{plotBy, boxPlotOf}
 use Rattle.capi.specs.Codes.{codeOf}
@@ -41,7 +43,8 @@ use Rattle.capi.specs.ListCall.{checkCode}
 use Rattle.capi.specs.TableCall.{tableCode}
 use Rattle.capi.specs.PlotCall.{plotCode}
 use Rattle.program_claims.specs.RefusalLaws.{chart-number}
-use Rattle.program_claims.specs.Coded.{Decodes, Coded, zoneChecked, stepChecked, bracketChecked, zoneNumbers, stepNumbers, batchNumbers, listNumbers, bracketNumbers}
+use Rattle.program_claims.specs.Coded.{Decodes, Coded, zoneChecked, stepChecked, bracketChecked, shiftChecked}
+use Rattle.program_claims.specs.Coded.{zoneNumbers, stepNumbers, batchNumbers, listNumbers, bracketNumbers, shiftNumbers}
 
 -- ---- codes
 
@@ -140,6 +143,14 @@ bracket-number pmf count p x e =
     go true true false total place e = there (there (here (refused-by false badPercent x e)))
     go true false percent total place e = there (here (refused-by false badStateCount x e))
     go false states percent total place e = here (refused-by false badListLength x e)
+
+pub shift-number : (s : ℤ) (x : Refusal) → shiftChecked (shiftOf s) ≡ Refused x → OneOf shiftNumbers (x .number)
+unfolding shiftOf
+shift-number s x e = go (leb (natAbs s) maxShift) e
+  where
+    go : (b : Bool) → shiftChecked (cond b (ShiftAnswer.Accepted (weightsOf s)) (ShiftAnswer.Refused badShift)) ≡ Refused x → OneOf shiftNumbers (x .number)
+    go true e = not-both x e
+    go false e = here (refused-by false badShift x e)
 
 -- ---- the codes of the table and of the plot record are those of the table's check
 

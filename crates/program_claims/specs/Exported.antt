@@ -29,9 +29,12 @@ use Rattle.table.specs.Table.{TableCall, tableCheck, tableOf}
 use Rattle.bracket.specs.declared.BracketAnswer.{BracketAnswer}
 use Rattle.bracket.specs.Bracket.{bracketOf}
 use Rattle.plot.specs.Plot.{boxPlotOf}
+use Rattle.shift.specs.declared.ShiftAnswer.{ShiftAnswer}
+use Rattle.shift.specs.Shift.{shiftOf}
 use Rattle.report.specs.Printed.{Printed, lines, refusedBy, printedBytes}
 use Rattle.report.specs.TableReport.{tablePrinted}
 use Rattle.report.specs.MonitorReport.{monitorPrinted}
+use Rattle.report.specs.WeightsReport.{weightsPrinted}
 use Rattle.print.specs.Refused.{refusedLine}
 use Rattle.capi.specs.Codes.{codeOf}
 use Rattle.capi.specs.ListCall.{checkCode}
@@ -40,11 +43,12 @@ use Rattle.capi.specs.BatchCall.{batchCode, BatchCall}
 use Rattle.capi.specs.TableCall.{tableCode, TableCalled}
 use Rattle.capi.specs.BracketCall.{bracketCode, BracketCalled}
 use Rattle.capi.specs.PlotCall.{plotCode, PlotCalled}
+use Rattle.capi.specs.ShiftCall.{shiftCode, ShiftCall}
 use Rattle.capi.specs.ReportCall.{printedCode, ReportCall}
-use Rattle.program_claims.specs.PrintedOnce.{tableNumbers, monitorNumbers, table-refusals, monitor-refusals}
-use Rattle.program_claims.specs.Coded.{Coded, zoneChecked, stepChecked, bracketChecked, printedChecked}
-use Rattle.program_claims.specs.Coded.{zoneNumbers, stepNumbers, batchNumbers, listNumbers, bracketNumbers}
-use Rattle.program_claims.specs.CodedLaws.{allFit, coded, zone-number, step-number, batch-number, table-number, bracket-number, table-coded, plot-coded}
+use Rattle.program_claims.specs.NumbersPrinted.{tableNumbers, monitorNumbers, weightsNumbers, table-refusals, monitor-refusals, weights-refusals}
+use Rattle.program_claims.specs.Coded.{Coded, zoneChecked, stepChecked, bracketChecked, shiftChecked, printedChecked}
+use Rattle.program_claims.specs.Coded.{zoneNumbers, stepNumbers, batchNumbers, listNumbers, bracketNumbers, shiftNumbers}
+use Rattle.program_claims.specs.CodedLaws.{allFit, coded, zone-number, step-number, batch-number, table-number, bracket-number, shift-number, table-coded, plot-coded}
 
 -- ---- what each code says, by the definition that the contract is an equation with
 
@@ -105,7 +109,15 @@ bracket-says pmf count p = coded bracketNumbers (bracketChecked (bracketOf pmf c
     same (BracketAnswer.Accepted place) = refl
     same (BracketAnswer.Refused x) = refl
 
--- the two reports: a refusal's number is one that the program prints
+shift-says : (s : ℤ) → Coded shiftNumbers (shiftChecked (shiftOf s)) (shiftCode (shiftOf s))
+unfolding allFit
+shift-says s = coded shiftNumbers (shiftChecked (shiftOf s)) _ refl (shift-number s) (same (shiftOf s))
+  where
+    same : (a : ShiftAnswer) → shiftCode a ≡ checkCode (shiftChecked a)
+    same (ShiftAnswer.Accepted w) = refl
+    same (ShiftAnswer.Refused x) = refl
+
+-- the reports: a refusal's number is one that the program prints
 printed-code : (p : Printed) → printedCode p ≡ checkCode (printedChecked p)
 printed-code (lines bytes) = refl
 printed-code (refusedBy x) = refl
@@ -125,6 +137,11 @@ monitor-report-says : (s : List ℕ) → Coded monitorNumbers (printedChecked (m
 unfolding allFit
 monitor-report-says s =
     coded monitorNumbers (printedChecked (monitorPrinted s)) _ refl (printed-number (monitorPrinted s) monitorNumbers (monitor-refusals s)) (printed-code (monitorPrinted s))
+
+weights-report-says : (s : List ℕ) → Coded weightsNumbers (printedChecked (weightsPrinted s)) (printedCode (weightsPrinted s))
+unfolding allFit
+weights-report-says s =
+    coded weightsNumbers (printedChecked (weightsPrinted s)) _ refl (printed-number (weightsPrinted s) weightsNumbers (weights-refusals s)) (printed-code (weightsPrinted s))
 
 -- ---- the claims: of every call that meets its function's contract
 
@@ -171,6 +188,10 @@ pub plot-code : {t : TableCall} {k : List ℕ} {v : List Float} {p′ s′ k′ 
     → Coded listNumbers (tableCheck t) r
 plot-code {t} call = same-code listNumbers (tableCheck t) (call .code) (plot-says t)
 
+-- `catrovindy_shift_weights`
+pub shift-code : {s : ℤ} {w w′ : List ℕ} {r : ℕ} → ShiftCall s w w′ r → Coded shiftNumbers (shiftChecked (shiftOf s)) r
+shift-code {s} call = same-code shiftNumbers (shiftChecked (shiftOf s)) (call .code) (shift-says s)
+
 -- `catrovindy_table_report`
 pub table-report-code : (s : List ℕ) {out count out′ count′ : List ℕ} {r : ℕ} → ReportCall (tablePrinted s) out count out′ count′ r
     → Coded tableNumbers (printedChecked (tablePrinted s)) r
@@ -180,3 +201,8 @@ table-report-code s call = same-code tableNumbers (printedChecked (tablePrinted 
 pub monitor-report-code : (s : List ℕ) {out count out′ count′ : List ℕ} {r : ℕ} → ReportCall (monitorPrinted s) out count out′ count′ r
     → Coded monitorNumbers (printedChecked (monitorPrinted s)) r
 monitor-report-code s call = same-code monitorNumbers (printedChecked (monitorPrinted s)) (call .code) (monitor-report-says s)
+
+-- `catrovindy_weights_report`
+pub weights-report-code : (s : List ℕ) {out count out′ count′ : List ℕ} {r : ℕ} → ReportCall (weightsPrinted s) out count out′ count′ r
+    → Coded weightsNumbers (printedChecked (weightsPrinted s)) r
+weights-report-code s call = same-code weightsNumbers (printedChecked (weightsPrinted s)) (call .code) (weights-report-says s)

@@ -11,6 +11,11 @@ pub mod NumberOnce
 pub mod LinesOnce
 pub mod WeightsLine
 pub mod PrintedOnce
+pub mod WeightsTexts
+pub mod WeightsBytes
+pub mod WeightsProgram
+pub mod NumbersPrinted
+pub mod WeightsTaken
 pub mod Coded
 pub mod CodedLaws
 pub mod Exported

@@ -1,19 +1,19 @@
--- CLAIMS: what is printed determines the numbers; and by which numbers no text is refused.
+-- CLAIMS: what is printed determines the numbers.
 use Prim.Native.Nat.{ℕ, zero, suc, _+_, _≤_, _<_}
 use mathlib.Core.Path.{_≡_, refl, sym, ap, _∙_}
-use mathlib.Core.Bool.{Bool, true, false, cond}
+use mathlib.Core.Bool.{Bool, true, false}
 use mathlib.Core.List.{List, [], _∷_, _++_, append-assoc, append-nil}
 use native.Mathlib.Omega.{arith}
-use lib.Dec.{ltb, eqb}
+use lib.Dec.{ltb}
 use lib.IntN.{ℤ}
 use lib.ListN.{getD}
-use borrow.Author.Tests.{ltb-true, ltb-false, eq-eqb}
+use borrow.Author.Tests.{ltb-true, ltb-false}
 use Rattle.rules.specs.declared.Rule.{Rule}
-use Rattle.rules.specs.Refusal.{badSigma, badState, badZone, badCount, shortList, badListLength, badStateCount, badPercent, badTotal, badLine, tooLong}
 use Rattle.monitor.specs.ReferenceChart.{Answer, refused, quiet, signal}
 use Rattle.monitor.specs.Calls.{Said, EachAnswer}
-use Rattle.text.specs.declared.lines.ZoneWeights.{ZoneWeights}
-use Rattle.text.specs.Format.{field, fields, weightList}
+use Rattle.rules.specs.declared.weights.ZoneWeights.{ZoneWeights}
+use Rattle.rules.specs.Weights.{weightList}
+use Rattle.text.specs.Format.{field, fields}
 use Rattle.print.specs.Refused.{refusedLine}
 use Rattle.print.specs.Monitor.{quietLine, signalLine, totalLine}
 use Rattle.print.specs.RowLine.{standingsLine, headerLine, rowLine, arlLine}
@@ -25,11 +25,10 @@ use Rattle.report.specs.MonitorReport.{monitorPrinted}
 use Rattle.claims.specs.Exact.{freeAnswers}
 use Rattle.program_claims.specs.Texts.{TableTextIs, MonitorTextIs}
 use Rattle.program_claims.specs.NumberOnce.{comma, not-number, behind-once}
-use Rattle.program_claims.specs.LinesOnce.{row-shape, standings-once, arl-once, refused-once, quiet-once, signal-once, row-once, percent-once}
-use Rattle.rules.specs.Numbers.{ruleNumbers, OneOf, here, there}
-use Rattle.program_claims.specs.Programs.{chartNumbers, rows, fivePercents, EachPercent, Figures, figureLines, FiguresHold}
-use Rattle.program_claims.specs.Programs.{TableRefusal, TableProgram, refuses, prints, too-long, bad-line, bad-table}
-use Rattle.program_claims.specs.Programs.{MonitorRefusal, MonitorProgram, bad-rules, bad-sigma}
+use Rattle.program_claims.specs.LinesOnce.{row-shape, standings-once, arl-once, quiet-once, signal-once, row-once, percent-once}
+use Rattle.program_claims.specs.Programs.{rows, fivePercents, EachPercent, Figures, figureLines, FiguresHold}
+use Rattle.program_claims.specs.Programs.{TableProgram, refuses, prints}
+use Rattle.program_claims.specs.Programs.{MonitorProgram}
 use Rattle.program_claims.specs.TableProgram.{table-program}
 use Rattle.program_claims.specs.MonitorProgram.{monitor-program}
 
@@ -151,7 +150,7 @@ same-hold {w} {rs} {h} {f} {g} e t =
     }
 
 -- a table's first byte is no refusal's
-table-not-refused : (h : ℕ) (f : Figures) (n p : ℕ) → figureLines h f ≡ refusedLine n p → ⊥
+pub table-not-refused : (h : ℕ) (f : Figures) (n p : ℕ) → figureLines h f ≡ refusedLine n p → ⊥
 unfolding figureLines standingsLine refusedLine
 table-not-refused h f n p e = let z : _≡_ {A = ℕ} 115 114 = ap (λ l. getD l 0 0) e in omega arith
 
@@ -205,7 +204,7 @@ pub points-once : (os bs : List Answer) → EachAnswer Said os → EachAnswer Sa
 unfolding pointsBytes
 points-once os bs i j e = answers-once os bs _ _ _ _ i j e
 
-points-not-refused : (os : List Answer) (n p : ℕ) → EachAnswer Said os → pointsBytes os ≡ refusedLine n p → ⊥
+pub points-not-refused : (os : List Answer) (n p : ℕ) → EachAnswer Said os → pointsBytes os ≡ refusedLine n p → ⊥
 unfolding pointsBytes answerLines EachAnswer quietLine signalLine totalLine refusedLine
 points-not-refused [] n p i e = let z : _≡_ {A = ℕ} 116 114 = ap (λ l. getD l 0 0) e in omega arith
 points-not-refused (refused x ∷ os) n p i e = i .0
@@ -221,85 +220,3 @@ monitor-read-off s os i e = go (monitor-program s)
         → (centre : ℤ) × (sigma : ℕ) × (rs : List Rule) × (xs : List ℤ) × MonitorTextIs s centre sigma rs xs × (os ≡ freeAnswers rs [] (zonesOf centre sigma xs))
     go (refuses number place q r) = absurd (points-not-refused os number place i (sym e ∙ q))
     go (prints c d rs xs is ok b t) = (c, d, rs, xs, is, points-once os _ i (t .said) (sym e ∙ t .lines))
-
--- ---- numbers that no program prints
-
--- whether n is among the numbers, and whether none of the first is among the second
-elem : ℕ → List ℕ → Bool
-elem n [] = false
-elem n (m ∷ ms) = cond (eqb n m) true (elem n ms)
-
-apart : List ℕ → List ℕ → Bool
-apart [] ms = true
-apart (n ∷ ns) ms = cond (elem n ms) false (apart ns ms)
-
-elem-true : {n : ℕ} {ms : List ℕ} → OneOf ms n → elem n ms ≡ true
-unfolding elem
-elem-true {n} (here {n = m} e) = rw (eq-eqb n m e)
-elem-true {n} (there {n = m} o) = go (eqb n m) (elem-true o)
-  where
-    go : (b : Bool) {x : Bool} → x ≡ true → cond b true x ≡ true
-    go true e = refl
-    go false e = e
-
-apart-never : {n : ℕ} {ns : List ℕ} (ms : List ℕ) → apart ns ms ≡ true → OneOf ns n → OneOf ms n → ⊥
-unfolding apart
-apart-never {n} ms a (here {n = m} {x} {ns} e) o =
-    let q : elem m ms ≡ true = rw e at (elem-true o) in
-    let r = rw q at a in
-    let z : _≡_ {A = ℕ} 0 1 = cc in
-    omega arith
-apart-never {n} ms a (there {n = m} {x} {ns} p) o = apart-never ms (go (elem m ms) a) p o
-  where
-    go : (b : Bool) → cond b false (apart ns ms) ≡ true → apart ns ms ≡ true
-    go true e = let z : _≡_ {A = ℕ} 0 1 = cc in absurd (omega arith)
-    go false e = e
-
--- the numbers that library calls alone give
-abbrev pub libraryNumbers : List ℕ
-libraryNumbers =
-    badState .number ∷ badZone .number ∷ badCount .number ∷ shortList .number ∷ badListLength .number ∷ badStateCount .number ∷ badPercent .number ∷ badTotal .number ∷ []
-
--- and those that a table text, or a monitor text, is refused by
-abbrev pub tableNumbers : List ℕ
-tableNumbers = tooLong .number ∷ badLine 0 .number ∷ chartNumbers
-
-abbrev pub monitorNumbers : List ℕ
-monitorNumbers = tooLong .number ∷ badLine 0 .number ∷ badSigma .number ∷ ruleNumbers
-
-table-numbers : {s : List ℕ} {n p : ℕ} → TableRefusal s n p → OneOf tableNumbers n
-table-numbers (too-long l) = here refl
-table-numbers (bad-line front rest place l e st q) = there (here refl)
-table-numbers (bad-table w rs h x is c o) = there (there o)
-
-monitor-numbers : {s : List ℕ} {n p : ℕ} → MonitorRefusal s n p → OneOf monitorNumbers n
-monitor-numbers (too-long l) = here refl
-monitor-numbers (bad-line front rest place l e st q) = there (here refl)
-monitor-numbers (bad-rules c d rs xs x is q o) = there (there (there o))
-monitor-numbers (bad-sigma c d rs xs is ok b) = there (there (here refl))
-
-refused-number : (n p n′ p′ : ℕ) → refusedLine n p ≡ refusedLine n′ p′ → n ≡ n′
-refused-number n p n′ p′ e = refused-once {xs = []} {ys = []} n p n′ p′ (append-nil (refusedLine n p) ∙ e ∙ sym (append-nil (refusedLine n′ p′))) .0
-
--- A refusal that the table program prints has one of its numbers; so 5, 6, 7 and 11 to 15 are never printed.
-pub table-refusals : (s : List ℕ) (n p : ℕ) → printedBytes (tablePrinted s) ≡ refusedLine n p → OneOf tableNumbers n
-table-refusals s n p e = go (table-program s)
-  where
-    go : TableProgram s (printedBytes (tablePrinted s)) → OneOf tableNumbers n
-    go (refuses number place q r) = rw (refused-number n p number place (sym e ∙ q)) (table-numbers r)
-    go (prints w rs h f is m ok q t) = absurd (table-not-refused h f n p (sym q ∙ e))
-
-pub table-never : (s : List ℕ) (n p : ℕ) → OneOf libraryNumbers n → printedBytes (tablePrinted s) ≡ refusedLine n p → ⊥
-unfolding apart elem
-table-never s n p o e = apart-never libraryNumbers refl (table-refusals s n p e) o
-
-pub monitor-refusals : (s : List ℕ) (n p : ℕ) → printedBytes (monitorPrinted s) ≡ refusedLine n p → OneOf monitorNumbers n
-monitor-refusals s n p e = go (monitor-program s)
-  where
-    go : MonitorProgram s (printedBytes (monitorPrinted s)) → OneOf monitorNumbers n
-    go (refuses number place q r) = rw (refused-number n p number place (sym e ∙ q)) (monitor-numbers r)
-    go (prints c d rs xs is ok b t) = absurd (points-not-refused _ n p (t .said) (sym (t .lines) ∙ e))
-
-pub monitor-never : (s : List ℕ) (n p : ℕ) → OneOf libraryNumbers n → printedBytes (monitorPrinted s) ≡ refusedLine n p → ⊥
-unfolding apart elem
-monitor-never s n p o e = apart-never libraryNumbers refl (monitor-refusals s n p e) o

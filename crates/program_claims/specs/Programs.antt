@@ -13,8 +13,8 @@ use Rattle.rules.specs.Numbers.{OneOf, ruleNumbers}
 use Rattle.monitor.specs.Zone.{minSigma, maxSigma}
 use Rattle.monitor.specs.ReferenceChart.{chartAnswers}
 use Rattle.monitor.specs.Calls.{Said, EachAnswer}
-use Rattle.text.specs.declared.lines.ZoneWeights.{ZoneWeights}
-use Rattle.text.specs.Format.{weightList}
+use Rattle.rules.specs.declared.weights.ZoneWeights.{ZoneWeights}
+use Rattle.rules.specs.Weights.{weightList}
 use Rattle.text.specs.Size.{maxText}
 use Rattle.text.specs.Word.{newlines}
 use Rattle.parse.specs.Rules.{ruleListOf}

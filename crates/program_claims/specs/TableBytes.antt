@@ -11,7 +11,7 @@ use borrow.Author.Tests.{leb-true, leb-false, le-leb, lt-leb}
 use Rattle.rules.specs.declared.Rule.{Rule}
 use Rattle.rules.specs.Bounds.{maxRules}
 use Rattle.rules.specs.Check.{activeRules}
-use Rattle.text.specs.declared.lines.ZoneWeights.{ZoneWeights}
+use Rattle.rules.specs.declared.weights.ZoneWeights.{ZoneWeights}
 use Rattle.text.specs.declared.lines.Line.the-variants.{Weights, Horizon}
 use Rattle.text.specs.Format.{bytesOf, InRange, LineIs}
 use Rattle.text.specs.Spans.{Spans}

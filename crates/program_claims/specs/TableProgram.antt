@@ -27,8 +27,8 @@ use Rattle.summary.specs.declared.SummaryAnswer.{SummaryAnswer}
 use Rattle.summary.specs.Summary.{summaryBy, summaryOf}
 use Rattle.summary.specs.AcceptedSummary.{AcceptedSummary}
 use Rattle.summary.specs.SummaryLaws.{accepted-summary, accepted-figures, refused-table}
-use Rattle.text.specs.declared.lines.ZoneWeights.{ZoneWeights}
-use Rattle.text.specs.Format.{weightList}
+use Rattle.rules.specs.declared.weights.ZoneWeights.{ZoneWeights}
+use Rattle.rules.specs.Weights.{weightList}
 use Rattle.parse.specs.declared.tables.TableText.{TableText}
 use Rattle.parse.specs.Rules.{ruleListOf}
 use Rattle.parse.specs.RulesLaws.{active-rules}

@@ -5,7 +5,7 @@ use mathlib.Core.List.{List, [], _∷_, _++_}
 use lib.IntN.{ℤ}
 use lib.ListN.{length}
 use Rattle.rules.specs.declared.Rule.{Rule}
-use Rattle.text.specs.declared.lines.ZoneWeights.{ZoneWeights}
+use Rattle.rules.specs.declared.weights.ZoneWeights.{ZoneWeights}
 use Rattle.text.specs.declared.lines.Line.{Line}
 use Rattle.text.specs.declared.lines.Line.the-variants.{Weights, Rule as RuleLine, Horizon, Chart, Point}
 use Rattle.text.specs.Word.{newlines}

@@ -7,12 +7,13 @@ use native.Mathlib.Omega.{arith}
 use lib.ListN.{length}
 use Rattle.rules.specs.Bounds.{zoneCount}
 use Rattle.rules.specs.Refusal.{badLine}
-use Rattle.text.specs.declared.lines.ZoneWeights.{ZoneWeights}
+use Rattle.rules.specs.declared.weights.ZoneWeights.{ZoneWeights}
 use Rattle.text.specs.declared.lines.Line.the-variants.{Weights}
 use Rattle.text.specs.Word.{newline, newlines, weightsWord}
 use Rattle.text.specs.Kind.{weights}
 use Rattle.text.specs.KindLaws.{weights-or-none}
-use Rattle.text.specs.Format.{fields, weightList, bytesOf}
+use Rattle.rules.specs.Weights.{weightList}
+use Rattle.text.specs.Format.{fields, bytesOf}
 use Rattle.text.specs.Size.{maxText}
 use Rattle.parse.specs.TableText.{refusedTable}
 use Rattle.print.specs.Refused.{refusedLine}

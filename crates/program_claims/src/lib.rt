@@ -1,1 +1,1 @@
-// What the two programs print for every text, from bytes to bytes: definitions, laws and claims only, in specs/. Nothing here runs.
+// What the programs print for every text, from bytes to bytes: definitions, laws and claims only, in specs/. Nothing here runs.

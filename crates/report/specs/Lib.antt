@@ -8,3 +8,4 @@ pub mod PointsWritten
 pub mod PointsLaws
 pub mod MonitorReport
 pub mod MonitorReportLaws
+pub mod WeightsReport

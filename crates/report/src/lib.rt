@@ -2,14 +2,17 @@
 mod monitors;
 mod outputs;
 mod points;
+mod weights;
 
 pub use monitors::monitor_report;
 pub use outputs::monitor_output;
 pub use outputs::table_output;
+pub use outputs::weights_output;
 use print::MAX_ROWS;
 use rules::Refusal;
 use summary::SummaryAnswer;
 use summary::table_summary;
+pub use weights::weights_report;
 ghost use mathlib.Core.Path.{_≡_};
 ghost use Rattle.report.specs.Printed.{report, reportOf};
 ghost use Rattle.report.specs.TableReport.{tablePrinted, reportHorizon};
@@ -30,6 +33,9 @@ impl ReportAnswer {
     // Room for the monitor program's lines: one for each point, and the total.
     pub const MONITOR_SIZE: usize = print::POINT_ROOM * ReportAnswer::MAX_POINTS
         + print::TOTAL_ROOM;
+
+    // Room for the weights program's line.
+    pub const WEIGHTS_SIZE: usize = print::WEIGHTS_ROOM;
 }
 
 // A horizon over the largest is refused as 0 is.

@@ -2,6 +2,7 @@ pub mod Bounds
 pub mod ZoneSet
 pub mod Mask
 pub mod Refusal
+pub mod Weights
 pub mod Check
 pub mod Ready
 pub mod InBounds

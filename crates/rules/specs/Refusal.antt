@@ -76,3 +76,7 @@ badLine line = refusal 16 line
 -- a text that is too long
 abbrev pub tooLong : Refusal
 tooLong = refusal 17 0
+
+-- a shift outside its bounds
+abbrev pub badShift : Refusal
+badShift = refusal 18 0

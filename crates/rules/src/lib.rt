@@ -1,11 +1,14 @@
-// Rule lists: the number of zones, the bounds, the two ready lists and the check; and the refusals of every operation.
+// Rule lists: the number of zones, the bounds, the two ready lists and the check; the weights of the zones; and the refusals of every operation.
 ghost use mathlib.Core.Path.{_≡_};
 ghost use Rattle.rules.specs.Check.{within as inRange, checkOf, checkRule};
 ghost use Rattle.rules.specs.Ready.{ruleOf, westernElectric, duncanList};
 
 mod refusal;
+mod weights;
 
 pub use refusal::Refusal;
+pub use weights::ZoneWeights;
+pub use weights::weight_array;
 
 // How many zones the chart has: they are numbered from 0. Nothing else says it.
 pub const ZONES: usize = 8;

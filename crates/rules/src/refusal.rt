@@ -57,4 +57,7 @@ impl Refusal {
 
     // The text is too long.
     pub const TEXT_SIZE: u32 = 17;
+
+    // The shift is outside its bounds.
+    pub const SHIFT: u32 = 18;
 }

@@ -2,6 +2,7 @@
 use monitor::zone::ZoneAnswer;
 use report::ReportAnswer;
 use rules::RuleList;
+use shift::ShiftAnswer;
 
 pub fn line(name: &[u8], n: u64) {
     show::number(name, n);
@@ -22,6 +23,7 @@ pub fn charts() {
     line(b"WEIGHT_TOTAL,", runlength::WEIGHT_TOTAL);
     line(b"UNITS_PER_ONE,", runlength::UNITS_PER_ONE);
     line(b"MAX_HORIZON,", runlength::MAX_HORIZON as u64);
+    line(b"MAX_SHIFT,", ShiftAnswer::MAX_SHIFT as u64);
 }
 
 pub fn texts() {
@@ -29,4 +31,5 @@ pub fn texts() {
     line(b"MAX_ROWS,", print::MAX_ROWS as u64);
     line(b"TABLE_SIZE,", ReportAnswer::TABLE_SIZE as u64);
     line(b"MONITOR_SIZE,", ReportAnswer::MONITOR_SIZE as u64);
+    line(b"WEIGHTS_SIZE,", ReportAnswer::WEIGHTS_SIZE as u64);
 }

@@ -26,4 +26,5 @@ pub fn bracket() {
     line(b"BAD_CHANCES,", Refusal::TOTAL as u64);
     line(b"BAD_LINE,", Refusal::LINE as u64);
     line(b"LONG_TEXT,", Refusal::TEXT_SIZE as u64);
+    line(b"BAD_SHIFT,", Refusal::SHIFT as u64);
 }

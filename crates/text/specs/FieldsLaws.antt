@@ -8,7 +8,8 @@ use lib.ListN.{length, getD, drop, drop-of-length-le}
 use lib.Seq.{drop-cons}
 use Rattle.rules.specs.Bounds.{zoneCount}
 use Rattle.text.specs.Line.{zoneWeights}
-use Rattle.text.specs.Format.{field, fields, weightList, Unsigned, AllUnsigned, none, one}
+use Rattle.rules.specs.Weights.{weightList}
+use Rattle.text.specs.Format.{field, fields, Unsigned, AllUnsigned, none, one}
 
 pub fields-snoc : (ns : List ℕ) (n : ℕ) → fields (ns ++ (n ∷ [])) ≡ fields ns ++ field n
 unfolding fields

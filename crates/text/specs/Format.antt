@@ -2,13 +2,13 @@
 use Prim.Native.Nat.{ℕ, suc, _≤_}
 use mathlib.Core.List.{List, [], _∷_, _++_}
 use lib.IntN.{ℤ, pos, negsuc}
-use Rattle.text.specs.declared.lines.ZoneWeights.{ZoneWeights}
 use Rattle.text.specs.declared.lines.Line.{Line}
-use Rattle.text.specs.declared.lines.Line.the-variants.{Weights, Rule, Horizon, Chart, Point, Other}
+use Rattle.text.specs.declared.lines.Line.the-variants.{Weights, Rule, Horizon, Chart, Point, Shift, Other}
 use Rattle.rules.specs.Bounds.{maxNumber}
+use Rattle.rules.specs.Weights.{weightList}
 use Rattle.text.specs.Decimal.{decimal, signedDecimal, maxPositive, maxNegative}
 use Rattle.text.specs.Spans.{Spans}
-use Rattle.text.specs.Word.{comma, newline, weightsWord, ruleWord, horizonWord, chartWord, pointWord}
+use Rattle.text.specs.Word.{comma, newline, weightsWord, ruleWord, horizonWord, chartWord, pointWord, shiftWord}
 
 -- a field is a comma and a number
 unfoldable pub field : ℕ → List ℕ
@@ -21,10 +21,6 @@ unfoldable pub fields : List ℕ → List ℕ
 fields [] = []
 fields (n ∷ ns) = field n ++ fields ns
 
--- the weights from zone 0 on
-abbrev pub weightList : ZoneWeights → List ℕ
-weightList w = w .s ∷ w .a1 ∷ w .b1 ∷ w .c1 ∷ w .c2 ∷ w .b2 ∷ w .a2 ∷ w .c0 ∷ []
-
 -- the bytes of a line: its keyword, its fields, and LF
 abbrev pub bytesOf : Line → List ℕ
 bytesOf (Weights w next) = weightsWord ++ fields (weightList w) ++ newline
@@ -32,6 +28,7 @@ bytesOf (Rule k m zones next) = ruleWord ++ field k ++ field m ++ field zones ++
 bytesOf (Horizon horizon next) = horizonWord ++ field horizon ++ newline
 bytesOf (Chart centre sigma next) = chartWord ++ signedField centre ++ field sigma ++ newline
 bytesOf (Point reading next) = pointWord ++ signedField reading ++ newline
+bytesOf (Shift shift next) = shiftWord ++ signedField shift ++ newline
 bytesOf Other = []
 
 -- the offset of the line behind it
@@ -41,6 +38,7 @@ nextOf (Rule k m zones next) = next
 nextOf (Horizon horizon next) = next
 nextOf (Chart centre sigma next) = next
 nextOf (Point reading next) = next
+nextOf (Shift shift next) = next
 nextOf Other = 0
 
 -- a line of some kind
@@ -50,6 +48,7 @@ NotOther (Rule k m zones next) = Unit {0}
 NotOther (Horizon horizon next) = Unit {0}
 NotOther (Chart centre sigma next) = Unit {0}
 NotOther (Point reading next) = Unit {0}
+NotOther (Shift shift next) = Unit {0}
 NotOther Other = ⊥
 
 -- numbers within 32 bits
@@ -72,6 +71,7 @@ InRange (Rule k m zones next) = Unsigned k × Unsigned m × Unsigned zones
 InRange (Horizon horizon next) = Unsigned horizon
 InRange (Chart centre sigma next) = InSigned centre × Unsigned sigma
 InRange (Point reading next) = InSigned reading
+InRange (Shift shift next) = InSigned shift
 InRange Other = ⊥
 
 -- the line stands in the text s at the offset `at`, with the next line right behind it

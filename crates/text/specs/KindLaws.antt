@@ -2,12 +2,12 @@
 use Prim.Native.Nat.{ℕ}
 use mathlib.Core.Path.{_≡_, refl, sym, ap, _∙_}
 use lib.IntN.{ℤ}
-use Rattle.text.specs.declared.lines.ZoneWeights.{ZoneWeights}
+use Rattle.rules.specs.declared.weights.ZoneWeights.{ZoneWeights}
 use Rattle.text.specs.declared.lines.Line.{Line}
-use Rattle.text.specs.declared.lines.Line.the-variants.{Weights, Rule, Horizon, Chart, Point, Other}
-use Rattle.text.specs.Kind.{Kind, weights, rule, horizon, chart, point, none, kind-discrete}
+use Rattle.text.specs.declared.lines.Line.the-variants.{Weights, Rule, Horizon, Chart, Point, Shift, Other}
+use Rattle.text.specs.Kind.{Kind, weights, rule, horizon, chart, point, shift, none, kind-discrete}
 use Rattle.text.specs.Kind.{kindOf, NotOf, kindNumber}
-use Rattle.text.specs.OnLine.{onWeights, onRule, onHorizon, onChart, onPoint}
+use Rattle.text.specs.OnLine.{onWeights, onRule, onHorizon, onChart, onPoint, onShift}
 
 -- a line of a kind that has another number
 pub other-kind : {kind k : Kind} {l : Line} → kindOf l ≡ k → (kindNumber k ≡ kindNumber kind → ⊥) → NotOf kind l
@@ -20,6 +20,7 @@ data LineOf : Kind → Line → Type 0 where
   a-horizon : (h next : ℕ) → LineOf horizon (Horizon h next)
   a-chart : (centre : ℤ) (sigma next : ℕ) → LineOf chart (Chart centre sigma next)
   a-point : (x : ℤ) (next : ℕ) → LineOf point (Point x next)
+  a-shift : (x : ℤ) (next : ℕ) → LineOf shift (Shift x next)
   no-line : LineOf none Other
 
 said : (l : Line) → LineOf (kindOf l) l
@@ -28,6 +29,7 @@ said (Rule k m zones next) = a-rule k m zones next
 said (Horizon h next) = a-horizon h next
 said (Chart centre sigma next) = a-chart centre sigma next
 said (Point x next) = a-point x next
+said (Shift x next) = a-shift x next
 said Other = no-line
 
 module _ {P : Type 0} (l : Line) where
@@ -69,6 +71,12 @@ module _ {P : Type 0} (l : Line) where
       at : (x : Line) → l ≡ x → LineOf point x → P
       at x e (a-point y next) = f y next e
 
+  pub shift-or-none : ((x : ℤ) (next : ℕ) → l ≡ Shift x next → P) → (NotOf shift l → P) → P
+  shift-or-none f = of-kind shift (at l refl)
+    where
+      at : (x : Line) → l ≡ x → LineOf shift x → P
+      at x e (a-shift y next) = f y next e
+
 -- ---- a line of another kind is passed over
 
 module _ {A : Type 0} where
@@ -78,6 +86,7 @@ module _ {A : Type 0} where
   weights-passed (Horizon h next) f a n = refl
   weights-passed (Chart centre sigma next) f a n = refl
   weights-passed (Point x next) f a n = refl
+  weights-passed (Shift x next) f a n = refl
   weights-passed Other f a n = refl
 
   pub rule-passed : (l : Line) (f : ℕ → ℕ → ℕ → ℕ → A) (a : A) → NotOf rule l → onRule l f a ≡ a
@@ -86,6 +95,7 @@ module _ {A : Type 0} where
   rule-passed (Horizon h next) f a n = refl
   rule-passed (Chart centre sigma next) f a n = refl
   rule-passed (Point x next) f a n = refl
+  rule-passed (Shift x next) f a n = refl
   rule-passed Other f a n = refl
 
   pub horizon-passed : (l : Line) (f : ℕ → ℕ → A) (a : A) → NotOf horizon l → onHorizon l f a ≡ a
@@ -94,6 +104,7 @@ module _ {A : Type 0} where
   horizon-passed (Horizon h next) f a n = absurd (n .never refl)
   horizon-passed (Chart centre sigma next) f a n = refl
   horizon-passed (Point x next) f a n = refl
+  horizon-passed (Shift x next) f a n = refl
   horizon-passed Other f a n = refl
 
   pub chart-passed : (l : Line) (f : ℤ → ℕ → ℕ → A) (a : A) → NotOf chart l → onChart l f a ≡ a
@@ -102,6 +113,7 @@ module _ {A : Type 0} where
   chart-passed (Horizon h next) f a n = refl
   chart-passed (Chart centre sigma next) f a n = absurd (n .never refl)
   chart-passed (Point x next) f a n = refl
+  chart-passed (Shift x next) f a n = refl
   chart-passed Other f a n = refl
 
   pub point-passed : (l : Line) (f : ℤ → ℕ → A) (a : A) → NotOf point l → onPoint l f a ≡ a
@@ -110,4 +122,14 @@ module _ {A : Type 0} where
   point-passed (Horizon h next) f a n = refl
   point-passed (Chart centre sigma next) f a n = refl
   point-passed (Point x next) f a n = absurd (n .never refl)
+  point-passed (Shift x next) f a n = refl
   point-passed Other f a n = refl
+
+  pub shift-passed : (l : Line) (f : ℤ → ℕ → A) (a : A) → NotOf shift l → onShift l f a ≡ a
+  shift-passed (Weights w next) f a n = refl
+  shift-passed (Rule k m zones next) f a n = refl
+  shift-passed (Horizon h next) f a n = refl
+  shift-passed (Chart centre sigma next) f a n = refl
+  shift-passed (Point x next) f a n = refl
+  shift-passed (Shift x next) f a n = absurd (n .never refl)
+  shift-passed Other f a n = refl

@@ -3,14 +3,14 @@ use Prim.Native.Nat.{ℕ, zero, suc}
 use mathlib.Core.List.{List, [], _∷_, _++_}
 use lib.ListN.{getD}
 use Rattle.rules.specs.Bounds.{zoneCount}
-use Rattle.text.specs.declared.lines.ZoneWeights.{ZoneWeights}
+use Rattle.rules.specs.declared.weights.ZoneWeights.{ZoneWeights}
 use Rattle.text.specs.declared.lines.Line.{Line}
-use Rattle.text.specs.declared.lines.Line.the-variants.{Weights, Rule, Horizon, Chart, Point, Other}
+use Rattle.text.specs.declared.lines.Line.the-variants.{Weights, Rule, Horizon, Chart, Point, Shift, Other}
 use Rattle.text.specs.declared.lines.RuleLine.{RuleLine}
 use Rattle.text.specs.declared.lines.RuleLine.the-variants.{Unreadable}
-use Rattle.text.specs.Word.{newline, weightsWord, ruleWord, horizonWord, chartWord, pointWord, wordAt, onFound}
+use Rattle.text.specs.Word.{newline, weightsWord, ruleWord, horizonWord, chartWord, pointWord, shiftWord, wordAt, onFound}
 use Rattle.text.specs.Number.{fieldAt, onNumber}
-use Rattle.text.specs.Signed.{signedFieldAt, onSigned}
+use Rattle.text.specs.Signed.{signedFieldAt, signedEnd, onSigned}
 use Rattle.text.specs.OnLine.{onRule}
 
 -- the weights in the order of the zones
@@ -54,7 +54,10 @@ chartFrom s p =
     Other) Other) Other
 
 unfoldable pub pointFrom : List ℕ → ℕ → Line
-pointFrom s p = onSigned (signedFieldAt s p) (λ reading e. onFound (wordAt newline s e) (λ next. Point reading next) Other) Other
+pointFrom s p = onSigned (signedEnd s p) Point Other
+
+unfoldable pub shiftFrom : List ℕ → ℕ → Line
+shiftFrom s p = onSigned (signedEnd s p) Shift Other
 
 unfoldable pub lineAt : List ℕ → ℕ → Line
 lineAt s at =
@@ -63,7 +66,8 @@ lineAt s at =
     (onFound (wordAt horizonWord s at) (horizonFrom s)
     (onFound (wordAt chartWord s at) (chartFrom s)
     (onFound (wordAt pointWord s at) (pointFrom s)
-    Other))))
+    (onFound (wordAt shiftWord s at) (shiftFrom s)
+    Other)))))
 
 -- the line at an offset, where a rule may come next: it does not begin with `rule`; else it gives three numbers or not
 unfoldable pub ruleLineAt : List ℕ → ℕ → RuleLine

@@ -14,20 +14,21 @@ use Rattle.text.specs.declared.signed.Signed.the-variants.{Whole, NoSign
 use Rattle.text.specs.declared.word.Found.{Found}
 use Rattle.text.specs.declared.word.Found.the-variants.{At, Absent}
 use Rattle.text.specs.declared.lines.Line.{Line}
-use Rattle.text.specs.declared.lines.Line.the-variants.{Weights, Rule, Horizon, Chart, Point, Other}
+use Rattle.text.specs.declared.lines.Line.the-variants.{Weights, Rule, Horizon, Chart, Point, Shift, Other}
 use Rattle.text.specs.DecimalLaws.{decimal-some, signed-some}
 use Rattle.text.specs.Spans.{Spans}
 use Rattle.text.specs.SpansLaws.{spans-then, spans-within}
 use Rattle.text.specs.Size.{minPoint, minLine}
-use Rattle.text.specs.Word.{newline, weightsWord, ruleWord, horizonWord, chartWord, pointWord, wordAt, onFound}
+use Rattle.text.specs.Word.{newline, weightsWord, ruleWord, horizonWord, chartWord, pointWord, shiftWord, wordAt, onFound}
 use Rattle.text.specs.WordLaws.{word-spans}
 use Rattle.text.specs.Number.{fieldAt, onNumber}
 use Rattle.text.specs.NumberLaws.{field-is}
-use Rattle.text.specs.Signed.{signedFieldAt, onSigned}
-use Rattle.text.specs.SignedLaws.{signed-field-is}
+use Rattle.text.specs.Signed.{signedFieldAt, signedEnd, onSigned}
+use Rattle.text.specs.SignedLaws.{signed-field-is, signed-end}
 use Rattle.text.specs.Line.{zoneWeights, fieldsFrom, weightsFrom, ruleFrom, horizonFrom, chartFrom}
-use Rattle.text.specs.Line.{pointFrom, lineAt}
-use Rattle.text.specs.Format.{field, signedField, fields, weightList, Unsigned, AllUnsigned, none, InSigned, InRange, bytesOf, nextOf, NotOther, LineIs}
+use Rattle.text.specs.Line.{pointFrom, shiftFrom, lineAt}
+use Rattle.rules.specs.Weights.{weightList}
+use Rattle.text.specs.Format.{field, signedField, fields, Unsigned, AllUnsigned, none, InSigned, InRange, bytesOf, nextOf, NotOther, LineIs}
 use Rattle.text.specs.FieldsLaws.{fields-snoc, unsigned-snoc, weight-list}
 
 module _ (s : List ℕ) (at : ℕ) where
@@ -57,6 +58,21 @@ module _ (s : List ℕ) (at : ℕ) where
         go : (y : Signed) → signedFieldAt s i ≡ y → Fine (onSigned y f Other)
         go (Whole x j) e = let r = signed-field-is s i x j e in k x j (r .1) (spans-then u (r .0))
         go NoSigned e = inl refl
+
+    -- a signed field that ends its line
+    end-fine : (f : ℤ → ℕ → Line) → ((x : ℤ) (next : ℕ) → InSigned x → Spans s at (bytes ++ signedField x ++ newline) next → Fine (f x next))
+        → Fine (onSigned (signedEnd s i) f Other)
+    end-fine f k =
+        rw (signed-end s i f Other)
+        (go (signedFieldAt s i) refl)
+      where
+        go : (y : Signed) → signedFieldAt s i ≡ y → Fine (onSigned y (λ x e. onFound (wordAt newline s e) (λ next. f x next) Other) Other)
+        go (Whole x e) q = let r = signed-field-is s i x e q in ends x e (r .1) (spans-then u (r .0)) (wordAt newline s e) refl
+          where
+            ends : (x : ℤ) (e : ℕ) → InSigned x → Spans s at (bytes ++ signedField x) e → (w : Found) → wordAt newline s e ≡ w → Fine (onFound w (λ next. f x next) Other)
+            ends x e r v (At next) p = k x next r (spans-then v (word-spans newline s e next p))
+            ends x e r v Absent p = inl refl
+        go NoSigned q = inl refl
 
   fields-fine : (n p : ℕ) (w : List ℕ) → length w + n ≡ zoneCount → AllUnsigned w → Spans s at (weightsWord ++ fields w) p → Fine (fieldsFrom n s p w)
   unfolding fieldsFrom
@@ -95,7 +111,11 @@ module _ (s : List ℕ) (at : ℕ) where
 
   point-fine : (p : ℕ) → Spans s at pointWord p → Fine (pointFrom s p)
   unfolding pointFrom
-  point-fine p u = on-signed u _ λ reading e rr ur. on-word ur newline _ λ next v. inr (record { spans = v; range = rr })
+  point-fine p u = end-fine u Point λ x next r v. inr (record { spans = v; range = r })
+
+  shift-fine : (p : ℕ) → Spans s at shiftWord p → Fine (shiftFrom s p)
+  unfolding shiftFrom
+  shift-fine p u = end-fine u Shift λ x next r v. inr (record { spans = v; range = r })
 
   -- one keyword, or else
   on-keyword : (w : List ℕ) (f : ℕ → Line) (other : Line) → ((p : ℕ) → Spans s at w p → Fine (f p)) → Fine other → Fine (onFound (wordAt w s at) f other)
@@ -114,7 +134,8 @@ module _ (s : List ℕ) (at : ℕ) where
       (on-keyword horizonWord _ _ horizon-fine
       (on-keyword chartWord _ _ chart-fine
       (on-keyword pointWord _ _ point-fine
-      (inl refl)))))
+      (on-keyword shiftWord _ _ shift-fine
+      (inl refl))))))
 
 -- the same, of a line in hand
 pub line-stands : (s : List ℕ) (at : ℕ) (l : Line) → lineAt s at ≡ l → NotOther l → LineIs s at l
@@ -124,7 +145,7 @@ line-stands s at l e n = go l n (rw e at (line-is s at))
     go l n (inl q) = absurd (rw q at n)
     go l n (inr r) = r
 
--- how far a line reaches: the shortest is `point,0`
+-- how far a line reaches: the shortest are `point,0` and `shift,0`
 bytes-long : (l : Line) → InRange l → minLine ≤ length (bytesOf l)
 unfolding field
 bytes-long (Weights w next) r = simp length-append (omega arith)
@@ -132,6 +153,7 @@ bytes-long (Rule k m zones next) r = simp length-append (omega (arith, decimal-s
 bytes-long (Horizon horizon next) r = simp length-append (omega (arith, decimal-some horizon))
 bytes-long (Chart centre sigma next) r = simp length-append (omega (arith, signed-some centre, decimal-some sigma))
 bytes-long (Point reading next) r = simp length-append (omega (arith, signed-some reading))
+bytes-long (Shift shift next) r = simp length-append (omega (arith, signed-some shift))
 bytes-long Other r = absurd r
 
 -- it ends behind its start and within the text

@@ -7,19 +7,20 @@ use native.Mathlib.Omega.{arith}
 use lib.ListN.{length, getD}
 use lib.Seq.{append-snoc}
 use lib.IntN.{ℤ}
-use Rattle.text.specs.declared.lines.ZoneWeights.{ZoneWeights}
+use Rattle.rules.specs.declared.weights.ZoneWeights.{ZoneWeights}
 use Rattle.text.specs.declared.lines.Line.{Line}
-use Rattle.text.specs.declared.lines.Line.the-variants.{Weights, Rule, Horizon, Chart, Point, Other}
+use Rattle.text.specs.declared.lines.Line.the-variants.{Weights, Rule, Horizon, Chart, Point, Shift, Other}
 use Rattle.text.specs.Spans.{Spans}
 use Rattle.text.specs.SpansLaws.{spans-front, spans-back, spans-first}
-use Rattle.text.specs.Word.{newline, weightsWord, ruleWord, horizonWord, chartWord, pointWord}
+use Rattle.text.specs.Word.{newline, weightsWord, ruleWord, horizonWord, chartWord, pointWord, shiftWord}
 use Rattle.text.specs.WordLaws.{word-read, word-absent}
 use Rattle.text.specs.Number.{NoDigit}
 use Rattle.text.specs.ReadBackLaws.{field-read}
-use Rattle.text.specs.SignedLaws.{signed-field-read}
-use Rattle.text.specs.Line.{zoneWeights, fieldsFrom, weightsFrom, ruleFrom, horizonFrom, chartFrom, pointFrom, lineAt}
+use Rattle.text.specs.SignedLaws.{signed-field-read, signed-end}
+use Rattle.text.specs.Line.{zoneWeights, fieldsFrom, weightsFrom, ruleFrom, horizonFrom, chartFrom, pointFrom, shiftFrom, lineAt}
 use Rattle.text.specs.Kind.{kindOf}
-use Rattle.text.specs.Format.{field, signedField, fields, weightList, AllUnsigned, none, one}
+use Rattle.rules.specs.Weights.{weightList}
+use Rattle.text.specs.Format.{field, signedField, fields, AllUnsigned, none, one}
 use Rattle.text.specs.Format.{bytesOf, InRange, LineIs}
 
 -- a separator is no digit
@@ -115,7 +116,26 @@ module _ {s : List ℕ} {at : ℕ} where
         word-absent s at 104 112 _ first refl,
         word-absent s at 99 112 _ first refl,
         word-read pointWord (spans-front pointWord (signedField reading) ur),
+        signed-end s _ Point Other,
         signed-field-read reading (spans-back pointWord (signedField reading) ur) (l .range) (ends ve (omega arith)),
+        word-read newline ve,
+      )
+
+  shift-read : (shift : ℤ) (next : ℕ) → LineIs s at (Shift shift next) → lineAt s at ≡ Shift shift next
+  unfolding lineAt shiftFrom
+  shift-read shift next l =
+      let first : getD s at 0 ≡ 115 = spans-first (l .spans) in
+      let us = spans-front (shiftWord ++ signedField shift) newline (l .spans) in
+      let ve = spans-back (shiftWord ++ signedField shift) newline (l .spans) in
+      rw (
+        word-absent s at 119 115 _ first refl,
+        word-absent s at 114 115 _ first refl,
+        word-absent s at 104 115 _ first refl,
+        word-absent s at 99 115 _ first refl,
+        word-absent s at 112 115 _ first refl,
+        word-read shiftWord (spans-front shiftWord (signedField shift) us),
+        signed-end s _ Shift Other,
+        signed-field-read shift (spans-back shiftWord (signedField shift) us) (l .range) (ends ve (omega arith)),
         word-read newline ve,
       )
 
@@ -125,6 +145,7 @@ module _ {s : List ℕ} {at : ℕ} where
   line-read (Horizon horizon next) l = horizon-read horizon next l
   line-read (Chart centre sigma next) l = chart-read centre sigma next l
   line-read (Point reading next) l = point-read reading next l
+  line-read (Shift shift next) l = shift-read shift next l
   line-read Other l = absurd (l .range)
 
   -- whatever offset is put behind it
@@ -134,4 +155,5 @@ module _ {s : List ℕ} {at : ℕ} where
   kind-read (Horizon h next) r u = ap kindOf (line-read (Horizon h _) (record { spans = u; range = r }))
   kind-read (Chart c d next) r u = ap kindOf (line-read (Chart c d _) (record { spans = u; range = r }))
   kind-read (Point x next) r u = ap kindOf (line-read (Point x _) (record { spans = u; range = r }))
+  kind-read (Shift x next) r u = ap kindOf (line-read (Shift x _) (record { spans = u; range = r }))
   kind-read Other r u = absurd r

@@ -6,10 +6,10 @@ use native.Mathlib.Omega.{arith}
 use lib.IntN.{ℤ, pos, negsuc}
 use borrow.Author.Tests.{ne-eqb}
 use Rattle.text.specs.declared.lines.Line.{Line}
-use Rattle.text.specs.declared.lines.Line.the-variants.{Weights, Rule, Horizon, Chart, Point, Other}
+use Rattle.text.specs.declared.lines.Line.the-variants.{Weights, Rule, Horizon, Chart, Point, Shift, Other}
 use Rattle.text.specs.Decimal.{digitByte, digitsOf, decimal, signedDecimal}
 use Rattle.text.specs.Format.{field, signedField, fields, bytesOf, NotOther}
-use Rattle.text.specs.Word.{newlines, weightsWord, ruleWord, horizonWord, chartWord, pointWord}
+use Rattle.text.specs.Word.{newlines, weightsWord, ruleWord, horizonWord, chartWord, pointWord, shiftWord}
 
 pub newlines-append : (xs ys : List ℕ) → newlines (xs ++ ys) ≡ newlines xs + newlines ys
 unfolding newlines
@@ -71,4 +71,5 @@ newlines-line (Chart centre sigma next) o =
       newlines-field,
     )
 newlines-line (Point x next) o = rw (newlines-append, newlines-append pointWord, newlines-signed-field)
+newlines-line (Shift x next) o = rw (newlines-append, newlines-append shiftWord, newlines-signed-field)
 newlines-line Other o = absurd o

@@ -9,7 +9,7 @@ use Rattle.text.specs.declared.number.Number.{Number}
 use Rattle.text.specs.declared.signed.Signed.{Signed}
 use Rattle.text.specs.declared.signed.Signed.the-variants.{Whole, NoSigned}
 use Rattle.text.specs.Decimal.{minusByte, maxPositive, maxNegative}
-use Rattle.text.specs.Word.{comma, wordAt, onFound}
+use Rattle.text.specs.Word.{comma, newline, wordAt, onFound}
 use Rattle.text.specs.Number.{numberAt, onNumber}
 
 -- what a number behind a minus gives
@@ -31,3 +31,7 @@ signedFieldAt s i = onFound (wordAt comma s i) (signedAt s) NoSigned
 abbrev pub onSigned : {A : Type 0} → Signed → (ℤ → ℕ → A) → A → A
 onSigned (Whole x i) f other = f x i
 onSigned NoSigned f other = other
+
+-- the signed number behind a comma that ends its line, with the offset of the next line
+unfoldable pub signedEnd : List ℕ → ℕ → Signed
+signedEnd s i = onSigned (signedFieldAt s i) (λ x e. onFound (wordAt newline s e) (λ next. Whole x next) NoSigned) NoSigned

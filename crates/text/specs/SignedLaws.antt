@@ -17,12 +17,12 @@ use Rattle.text.specs.declared.word.Found.the-variants.{At, Absent}
 use Rattle.text.specs.Decimal.{decimal, minusByte, signedDecimal, maxPositive, maxNegative}
 use Rattle.text.specs.Spans.{Spans}
 use Rattle.text.specs.SpansLaws.{spans-byte, spans-then, spans-front, spans-back, spans-first}
-use Rattle.text.specs.Word.{comma, wordAt, onFound}
+use Rattle.text.specs.Word.{comma, newline, wordAt, onFound}
 use Rattle.text.specs.WordLaws.{word-spans, word-read}
 use Rattle.text.specs.Number.{NoDigit, numberAt}
 use Rattle.text.specs.NumberLaws.{number-is}
 use Rattle.text.specs.ReadBackLaws.{number-read, number-first}
-use Rattle.text.specs.Signed.{minus, plus, signedAt, signedFieldAt}
+use Rattle.text.specs.Signed.{minus, plus, signedAt, signedFieldAt, signedEnd, onSigned}
 use Rattle.text.specs.Format.{signedField, InSigned}
 
 -- x stands in decimal at i, up to j
@@ -89,3 +89,18 @@ pub signed-field-read : {s : List ℕ} {i j : ℕ} (x : ℤ) → Spans s i (sign
 unfolding signedFieldAt
 signed-field-read x u l h =
     rw (word-read comma (spans-front comma (signedDecimal x) u)) (signed-read x (spans-back comma (signedDecimal x) u) l h)
+
+-- what follows a signed field that ends its line
+pub signed-end : {A : Type 0} (s : List ℕ) (i : ℕ) (f : ℤ → ℕ → A) (other : A)
+    → onSigned (signedEnd s i) f other ≡ onSigned (signedFieldAt s i) (λ x e. onFound (wordAt newline s e) (λ next. f x next) other) other
+unfolding signedEnd
+signed-end {A} s i f other = go (signedFieldAt s i)
+  where
+    ends : (x : ℤ) (w : Found) → onSigned (onFound w (λ next. Whole x next) NoSigned) f other ≡ onFound w (λ next. f x next) other
+    ends x (At next) = refl
+    ends x Absent = refl
+
+    go : (y : Signed) → onSigned (onSigned y (λ x e. onFound (wordAt newline s e) (λ next. Whole x next) NoSigned) NoSigned) f other
+        ≡ onSigned y (λ x e. onFound (wordAt newline s e) (λ next. f x next) other) other
+    go (Whole x e) = ends x (wordAt newline s e)
+    go NoSigned = refl

@@ -40,6 +40,10 @@ chartWord = 99 ∷ 104 ∷ 97 ∷ 114 ∷ 116 ∷ []
 abbrev pub pointWord : List ℕ
 pointWord = 112 ∷ 111 ∷ 105 ∷ 110 ∷ 116 ∷ []
 
+-- `shift`
+abbrev pub shiftWord : List ℕ
+shiftWord = 115 ∷ 104 ∷ 105 ∷ 102 ∷ 116 ∷ []
+
 -- the offset past the word, where the bytes l, which stand at the offset i, begin with it
 unfoldable pub pastWord : List ℕ → List ℕ → ℕ → Found
 pastWord [] l i = At i

@@ -17,11 +17,9 @@ mod write;
 
 pub use lines::Line;
 pub use lines::RuleLine;
-pub use lines::ZoneWeights;
 pub use lines::line_at;
 pub use lines::next_of;
 pub use lines::rule_line;
-pub use lines::weight_array;
 pub use reader::Reader;
 pub use reader::line;
 pub use reader::moved;

@@ -2,28 +2,18 @@
 use crate::number::Number;
 use crate::number::field;
 use crate::signed::Signed;
+use crate::signed::signed_end;
 use crate::signed::signed_field;
 use crate::word::Found;
 use crate::word::past;
 use rules::ZONES;
+use rules::ZoneWeights;
 ghost use mathlib.Core.Path.{_≡_};
-ghost use Rattle.text.specs.Line.{zoneWeights, weightsFrom, ruleFrom, horizonFrom, chartFrom, pointFrom};
+ghost use Rattle.text.specs.Line.{zoneWeights, weightsFrom, ruleFrom, horizonFrom, chartFrom, pointFrom, shiftFrom};
 ghost use Rattle.text.specs.Line.{lineAt, ruleLineAt};
-ghost use Rattle.text.specs.Format.{nextOf, weightList};
+ghost use Rattle.text.specs.Format.{nextOf};
 
-// A weight for each zone, from zone 0 on. An enum can hold no array.
-pub struct ZoneWeights {
-    pub s: u32,
-    pub a1: u32,
-    pub b1: u32,
-    pub c1: u32,
-    pub c2: u32,
-    pub b2: u32,
-    pub a2: u32,
-    pub c0: u32,
-}
-
-// A line of either program, with the offset of the line behind it. `Other` is every line that is none of these or cannot be read.
+// A line of any program, with the offset of the line behind it. `Other` is every line that is none of these or cannot be read.
 pub enum Line {
     Weights {
         weights: ZoneWeights,
@@ -46,6 +36,10 @@ pub enum Line {
     },
     Point {
         reading: i32,
+        next: usize,
+    },
+    Shift {
+        shift: i32,
         next: usize,
     },
     Other,
@@ -77,13 +71,6 @@ fn zone_weights(w: [u32; ZONES]) -> ZoneWeights
         a2: w[6],
         c0: w[7],
     }
-}
-
-// The weights from zone 0 on.
-pub fn weight_array(w: ZoneWeights) -> [u32; ZONES]
-    ensures { λ r. ⌜ r ≡ weightList w ⌝ }
-{
-    [w.s, w.a1, w.b1, w.c1, w.c2, w.b2, w.a2, w.c0]
 }
 
 // What follows the keyword of a weights line: a field for each zone.
@@ -166,13 +153,20 @@ fn chart_from(text: &[u8], at: usize) -> Line
 fn point_from(text: &[u8], at: usize) -> Line
     ensures { λ r. ⌜ r ≡ pointFrom (now (text .entry)) at ⌝ }
 {
-    let Signed::Whole(reading, e) = signed_field(text, at) else {
-        return Line::Other;
-    };
-    let Found::At(next) = past(text, e, b"\n") else {
+    let Signed::Whole(reading, next) = signed_end(text, at) else {
         return Line::Other;
     };
     Line::Point { reading, next }
+}
+
+// What follows the keyword of a shift line.
+fn shift_from(text: &[u8], at: usize) -> Line
+    ensures { λ r. ⌜ r ≡ shiftFrom (now (text .entry)) at ⌝ }
+{
+    let Signed::Whole(shift, next) = signed_end(text, at) else {
+        return Line::Other;
+    };
+    Line::Shift { shift, next }
 }
 
 // The line at `at`.
@@ -193,6 +187,9 @@ pub fn line_at(text: &[u8], at: usize) -> Line
     }
     if let Found::At(p) = past(text, at, b"point") {
         return point_from(text, p);
+    }
+    if let Found::At(p) = past(text, at, b"shift") {
+        return shift_from(text, p);
     }
     Line::Other
 }
@@ -220,6 +217,7 @@ pub fn next_of(line: Line) -> usize
         Line::Horizon { next, .. } => next,
         Line::Chart { next, .. } => next,
         Line::Point { next, .. } => next,
+        Line::Shift { next, .. } => next,
         Line::Other => 0,
     }
 }

@@ -8,7 +8,7 @@ ghost use mathlib.Core.Path.{_≡_};
 ghost use Prim.Native.Nat.{_-_, _<_, _≤_};
 ghost use lib.IntN.{pos, negsuc};
 ghost use Rattle.text.specs.Decimal.{maxPositive, maxNegative};
-ghost use Rattle.text.specs.Signed.{signedAt, signedFieldAt};
+ghost use Rattle.text.specs.Signed.{signedAt, signedFieldAt, signedEnd};
 
 // A signed number and the offset past it.
 pub enum Signed {
@@ -66,4 +66,17 @@ pub fn signed_field(text: &[u8], at: usize) -> Signed
         return Signed::NoSigned;
     };
     signed_at(text, p)
+}
+
+// The signed number behind a comma at `at` that ends its line, and the offset of the next line.
+pub fn signed_end(text: &[u8], at: usize) -> Signed
+    ensures { λ r. ⌜ r ≡ signedEnd (now (text .entry)) at ⌝ }
+{
+    let Signed::Whole(x, e) = signed_field(text, at) else {
+        return Signed::NoSigned;
+    };
+    let Found::At(next) = past(text, e, b"\n") else {
+        return Signed::NoSigned;
+    };
+    Signed::Whole(x, next)
 }

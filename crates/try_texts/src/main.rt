@@ -1,5 +1,6 @@
-// Tries the reports of both programs on a folder of texts, good and bad. The file `list` names the texts, a path to a line; those whose path
-// starts with `t` are for the table program, all others for the monitor program. What is printed is compared with the file `stdout`.
+// Tries the reports of the three programs on a folder of texts, good and bad. The file `list` names the texts, a path to a line; those whose
+// path starts with `t` are for the table program, those with `w` for the weights program, all others for the monitor program. What is
+// printed is compared with the file `stdout`.
 mod bytes;
 mod reports;
 

@@ -55,16 +55,32 @@ fn monitor(text: &[u8]) {
     }
 }
 
-fn is_table(path: &[u8]) -> bool {
-    if path.len() == 0 {
-        return false;
+fn weights(text: &[u8]) {
+    let mut out = [0u8; ReportAnswer::WEIGHTS_SIZE];
+    match report::weights_report(text, &mut out) {
+        ReportAnswer::Written(n) => {
+            written(&out[..n]);
+        }
+        ReportAnswer::Refused(r) => {
+            output::refused(r);
+        }
     }
-    path[0] == b't'
+}
+
+// A path's first byte; 0 where it has none.
+fn initial(path: &[u8]) -> u8 {
+    if path.len() == 0 {
+        return 0;
+    }
+    path[0]
 }
 
 pub fn report_by(path: &[u8], text: &[u8]) {
-    if is_table(path) {
+    let first = initial(path);
+    if first == b't' {
         table(text);
+    } else if first == b'w' {
+        weights(text);
     } else {
         monitor(text);
     }

@@ -121,14 +121,54 @@ returns-5 c =
 enum-told-5 : tie.Need-enum-told-5
 enum-told-5 c = search needs
 
+slice-aggregate-past-6 : tie.Need-slice-aggregate-past-6
+slice-aggregate-past-6 c = search needs
+
+past-requires-6 : tie.Need-past-requires-6
+past-requires-6 c κs = search needs
+
+enum-known-p-6 : tie.Need-enum-known-p-6
+enum-known-p-6 c = search needs
+
+shift-from-requires : tie.Need-shift-from-requires
+shift-from-requires c κs = search needs
+
 returns-6 : tie.Need-returns-6
 unfolding lineAt
 returns-6 c =
-    let no-chart = c .before .before .before .before in
+    let shift = c .before .before in
+    let no-point = shift .before .before .before .before in
+    let no-chart = no-point .before .before .before .before in
     let no-horizon = no-chart .before .before .before .before in
     let no-rule = no-horizon .before .before .before .before in
     let no-weights = no-rule .before .before .before .before in
-    sym (absent _ _ (sym (no-weights .before .before .past .ensures) ∙ no-weights .enum-told .given .1) ∙ absent _ _ (sym (no-rule .before .before .past2 .ensures) ∙ no-rule .enum-told2 .given .1) ∙ absent _ _ (sym (no-horizon .before .before .past3 .ensures) ∙ no-horizon .enum-told3 .given .1) ∙ absent _ _ (sym (no-chart .before .before .past4 .ensures) ∙ no-chart .enum-told4 .given .1) ∙ absent _ _ (sym (c .before .before .past5 .ensures) ∙ c .enum-told5 .given .1))
+    c .shift-from .ensures
+    ∙ sym
+    (absent _ _ (sym (no-weights .before .before .past .ensures) ∙ no-weights .enum-told .given .1)
+    ∙ absent _ _ (sym (no-rule .before .before .past2 .ensures) ∙ no-rule .enum-told2 .given .1)
+    ∙ absent _ _ (sym (no-horizon .before .before .past3 .ensures) ∙ no-horizon .enum-told3 .given .1)
+    ∙ absent _ _ (sym (no-chart .before .before .past4 .ensures) ∙ no-chart .enum-told4 .given .1)
+    ∙ absent _ _ (sym (no-point .before .before .past5 .ensures) ∙ no-point .enum-told5 .given .1)
+    ∙ found _ _ (sym (shift .before .before .past6 .ensures) ∙ shift .p6 .given .1))
+
+enum-told-6 : tie.Need-enum-told-6
+enum-told-6 c = search needs
+
+returns-7 : tie.Need-returns-7
+unfolding lineAt
+returns-7 c =
+    let no-point = c .before .before .before .before in
+    let no-chart = no-point .before .before .before .before in
+    let no-horizon = no-chart .before .before .before .before in
+    let no-rule = no-horizon .before .before .before .before in
+    let no-weights = no-rule .before .before .before .before in
+    sym
+    (absent _ _ (sym (no-weights .before .before .past .ensures) ∙ no-weights .enum-told .given .1)
+    ∙ absent _ _ (sym (no-rule .before .before .past2 .ensures) ∙ no-rule .enum-told2 .given .1)
+    ∙ absent _ _ (sym (no-horizon .before .before .past3 .ensures) ∙ no-horizon .enum-told3 .given .1)
+    ∙ absent _ _ (sym (no-chart .before .before .past4 .ensures) ∙ no-chart .enum-told4 .given .1)
+    ∙ absent _ _ (sym (no-point .before .before .past5 .ensures) ∙ no-point .enum-told5 .given .1)
+    ∙ absent _ _ (sym (c .before .before .past6 .ensures) ∙ c .enum-told6 .given .1))
 
 pub line-at-spec : {M : Type 1} → statement M
 line-at-spec =
@@ -164,4 +204,10 @@ line-at-spec =
     point-from-requires
     returns-5
     enum-told-5
-    returns-6)
+    slice-aggregate-past-6
+    past-requires-6
+    enum-known-p-6
+    shift-from-requires
+    returns-6
+    enum-told-6
+    returns-7)

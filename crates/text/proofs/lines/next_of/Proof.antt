@@ -20,6 +20,9 @@ enum-known-line-4 c = search needs
 enum-known-line-5 : tie.Need-enum-known-line-5
 enum-known-line-5 c = search needs
 
+enum-known-line-6 : tie.Need-enum-known-line-6
+enum-known-line-6 c = search needs
+
 enum-told : tie.Need-enum-told
 enum-told c = search needs
 
@@ -41,6 +44,9 @@ returns-5 c = search needs
 returns-6 : tie.Need-returns-6
 returns-6 c = search needs
 
+returns-7 : tie.Need-returns-7
+returns-7 c = search needs
+
 pub next-of-spec : {M : Type 1} → statement M
 next-of-spec =
     tie.close
@@ -50,10 +56,12 @@ next-of-spec =
     enum-known-line-3
     enum-known-line-4
     enum-known-line-5
+    enum-known-line-6
     enum-told
     returns
     returns-2
     returns-3
     returns-4
     returns-5
-    returns-6)
+    returns-6
+    returns-7)

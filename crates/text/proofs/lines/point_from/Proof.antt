@@ -1,15 +1,15 @@
--- `text::point_from` meets its contract: a signed field and LF.
+-- `text::point_from` meets its contract: a signed field that ends the line.
 use borrow.Author.Needs.{needs}
 use mathlib.Core.Path.{_≡_, sym, _∙_}
 use mir.Syntax.{w32}
 use mir.Val.{toZ, ofZ}
 use Rattle.text.specs.Line.{pointFrom}
-use Rattle.text.proofs.On.{found, absent, signed, no-signed}
+use Rattle.text.proofs.On.{signed, no-signed}
 use Rattle.text.proofs.lines.point_from.Statement.{statement}
 use Rattle.text.proofs.lines.point_from.Tie as tie
 
-signed-field-requires : tie.Need-signed-field-requires
-signed-field-requires c κs = search needs
+signed-end-requires : tie.Need-signed-end-requires
+signed-end-requires c κs = search needs
 
 enum-known-reading : tie.Need-enum-known-reading
 enum-known-reading c = search needs
@@ -19,45 +19,14 @@ enum-told c = search needs
 
 returns : tie.Need-returns
 unfolding pointFrom
-returns c = sym (no-signed _ _ (sym (c .before .before .signed-field .ensures) ∙ c .enum-told .given .1))
-
-slice-aggregate-past : tie.Need-slice-aggregate-past
-slice-aggregate-past c = search needs
-
-past-requires : tie.Need-past-requires
-past-requires c κs = search needs
-
-enum-known-next : tie.Need-enum-known-next
-enum-known-next c = search needs
-
-enum-told-2 : tie.Need-enum-told-2
-enum-told-2 c = search needs
+returns c = sym (no-signed _ _ (sym (c .before .before .signed-end .ensures) ∙ c .enum-told .given .1))
 
 returns-2 : tie.Need-returns-2
 unfolding pointFrom
 returns-2 c =
-    let reading = c .before .before .before .before .before in
-    sym (signed _ _ (sym (reading .before .before .signed-field .ensures) ∙ reading .reading .given .1) ∙ absent _ _ (sym (c .before .before .past .ensures) ∙ c .enum-told2 .given .1))
-
-returns-3 : tie.Need-returns-3
-unfolding pointFrom
-returns-3 c =
-    let next = c .before in
-    let reading = next .before .before .before .before .before in
-    let fits : toZ w32 (ofZ w32 (reading .reading .given .0 .0)) ≡ reading .reading .given .0 .0 = search needs in
-    rw fits (sym (signed _ _ (sym (reading .before .before .signed-field .ensures) ∙ reading .reading .given .1) ∙ found _ _ (sym (next .before .before .past .ensures) ∙ next .next .given .1)))
+    let x = c .before in
+    let fits : toZ w32 (ofZ w32 (x .reading .given .0 .0)) ≡ x .reading .given .0 .0 = search needs in
+    rw fits (sym (signed _ _ (sym (x .before .before .signed-end .ensures) ∙ x .reading .given .1)))
 
 pub point-from-spec : {M : Type 1} → statement M
-point-from-spec =
-    tie.close
-    (tie.spec
-    signed-field-requires
-    enum-known-reading
-    enum-told
-    returns
-    slice-aggregate-past
-    past-requires
-    enum-known-next
-    enum-told-2
-    returns-2
-    returns-3)
+point-from-spec = tie.close (tie.spec signed-end-requires enum-known-reading enum-told returns returns-2)

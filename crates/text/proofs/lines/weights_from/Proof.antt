@@ -4,7 +4,7 @@ use Prim.Native.Nat.{_≤_, _-_}
 use mathlib.Core.Path.{_≡_, refl, sym, ap, _∙_}
 use lib.ListN.{length, length-set}
 use Rattle.rules.specs.Bounds.{zoneCount}
-use Rattle.text.specs.declared.lines.ZoneWeights.{ZoneWeights}
+use Rattle.rules.specs.declared.weights.ZoneWeights.{ZoneWeights}
 use Rattle.text.specs.declared.lines.Line.the-variants.{Weights}
 use Rattle.text.specs.Line.{weightsFrom}
 use Rattle.text.proofs.Weight.{rest, next-weight, no-weight, line-ends, line-goes-on}

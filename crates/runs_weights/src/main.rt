@@ -1,0 +1,17 @@
+// The weights program: a shift on standard input, the weights line of a core that is so shifted on standard output.
+use report::ReportAnswer;
+use text::MAX_TEXT;
+
+// One byte more than the longest text is read, so that a longer one is told. Where a read fails nothing is printed.
+fn main() {
+    let mut text = [0u8; MAX_TEXT + 1];
+    let input = output::read_input(&mut text);
+    if input.failed {
+        os::fail(b"standard input");
+        return;
+    }
+    let n = input.len;
+    let mut out = [0u8; ReportAnswer::WEIGHTS_SIZE];
+    let m = report::weights_output(&text[..n], &mut out);
+    output::lines(&out[..m]);
+}

@@ -1,0 +1,9 @@
+pub mod Area
+pub mod Shift
+pub mod Shifted
+pub mod Below
+pub mod TableLaw
+pub mod AreaLaws
+pub mod DifferenceLaws
+pub mod BelowLaws
+pub mod ShiftLaws
