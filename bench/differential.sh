@@ -3,6 +3,6 @@
 set -euo pipefail
 cd "$(dirname "$0")"
 bash ../scripts/library.sh
-for test in differential plots steps texts; do
+for test in differential plots steps shifts texts; do
   cargo run --release --offline --quiet --bin "$test"
 done

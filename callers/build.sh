@@ -13,7 +13,7 @@ c++ -std=c++11 $flags -x c++ callers/soak.c -x none "$library" -o target/callers
 
 # Each call of such a function goes by way of the one that edges.c puts before it.
 wrap=
-for name in batch table bracket plot table_report monitor_report; do wrap+=" -Wl,--wrap=catrovindy_$name"; done
+for name in batch table bracket plot table_report monitor_report weights_report; do wrap+=" -Wl,--wrap=catrovindy_$name"; done
 cc -std=c99 $flags callers/edges.c "$library" $wrap -o target/callers/edges_c
 c++ -std=c++11 $flags -x c++ callers/edges.c -x none "$library" $wrap -o target/callers/edges_cpp
 

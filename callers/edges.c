@@ -1,7 +1,7 @@
 /*
  * The edges of the calls from C and C++: lists of length 0 that are null, a batch of no readings, a full count, a plot record that is
- * refused, the last zone. Every exported function with a list is reached by way of __wrap_..., see build.sh, which looks whether a null
- * pointer gets there. Prints what is wrong, and nothing where nothing is.
+ * refused, the last zone, the largest shifts. Every exported function with a list is reached by way of __wrap_..., see build.sh, which
+ * looks whether a null pointer gets there. Prints what is wrong, and nothing where nothing is.
  */
 #include "catrovindy.h"
 
@@ -72,6 +72,12 @@ uint64_t __wrap_catrovindy_monitor_report(const uint8_t *text, size_t length, ui
     return __real_catrovindy_monitor_report(text, length, out, bytes);
 }
 
+uint64_t __real_catrovindy_weights_report(const uint8_t *, size_t, uint8_t *, uint64_t *);
+uint64_t __wrap_catrovindy_weights_report(const uint8_t *text, size_t length, uint8_t *out, uint64_t *bytes) {
+    see(text);
+    return __real_catrovindy_weights_report(text, length, out, bytes);
+}
+
 #ifdef __cplusplus
 }
 #endif
@@ -80,7 +86,7 @@ static const uint32_t rules[CATROVINDY_SLOTS] = CATROVINDY_DUNCAN;
 static const uint32_t rule_count = CATROVINDY_DUNCAN_COUNT;
 static const uint32_t weights[CATROVINDY_ZONES] = {CATROVINDY_WEIGHT_TOTAL, 0, 0, 0, 0, 0, 0, 0};
 static const int32_t quiet[5] = {0, 0, 0, 0, 0};
-static uint8_t table_lines[CATROVINDY_TABLE_SIZE], monitor_lines[CATROVINDY_MONITOR_SIZE];
+static uint8_t table_lines[CATROVINDY_TABLE_SIZE], monitor_lines[CATROVINDY_MONITOR_SIZE], weights_line[CATROVINDY_WEIGHTS_SIZE];
 
 /* Every list of every function once as null, with the length 0. */
 static void null_lists(void) {
@@ -98,8 +104,9 @@ static void null_lists(void) {
             "11 for a plot with no lists");
     require(refused(catrovindy_table_report(NULL, 0, table_lines, &bytes), CATROVINDY_BAD_LINE, 1), "16 for no table text");
     require(refused(catrovindy_monitor_report(NULL, 0, monitor_lines, &bytes), CATROVINDY_BAD_LINE, 1), "16 for no monitor text");
+    require(refused(catrovindy_weights_report(NULL, 0, weights_line, &bytes), CATROVINDY_BAD_LINE, 1), "16 for no shift text");
     require(bytes == 77, "a refused report leaves the number of bytes");
-    require(seen == 10 && nulls == 0, "no null pointer gets to an exported function");
+    require(seen == 11 && nulls == 0, "no null pointer gets to an exported function");
 }
 
 /* A batch of no readings is checked like a first reading. */
@@ -156,6 +163,48 @@ static void last_zone(void) {
     require(refused(catrovindy_check(eight, 2), CATROVINDY_BAD_ZONE_SET, 1), "4 for a set of a zone after it");
 }
 
+/* Whether a shift has these weights. */
+static int weighs(int32_t shift, const uint32_t expected[CATROVINDY_ZONES]) {
+    uint32_t written[CATROVINDY_ZONES];
+    return catrovindy_shift_weights(shift, written) == CATROVINDY_ACCEPTED && memcmp(written, expected, sizeof written) == 0;
+}
+
+/* The largest shift on either side, and those beyond it: a refused call leaves the weights. */
+static void shifts(void) {
+    static const uint32_t high[CATROVINDY_ZONES] = {71737334, 259555974, 411162504, 259555974, 65066109, 6417793, 246136, 0};
+    static const uint32_t low[CATROVINDY_ZONES] = {71737334, 246136, 6417793, 65066109, 259555974, 411162504, 259555974, 0};
+    static const int32_t beyond[4] = {CATROVINDY_MAX_SHIFT + 1, -CATROVINDY_MAX_SHIFT - 1, INT32_MAX, INT32_MIN};
+    uint32_t kept[CATROVINDY_ZONES] = {1, 2, 3, 4, 5, 6, 7, 8};
+    require(weighs(CATROVINDY_MAX_SHIFT, high), "the weights of the largest shift");
+    require(weighs(-CATROVINDY_MAX_SHIFT, low), "the weights of the least shift are their mirror");
+    for (int i = 0; i < 4; i++) {
+        require(refused(catrovindy_shift_weights(beyond[i], kept), CATROVINDY_BAD_SHIFT, 0), "18 for a shift beyond");
+    }
+    for (uint32_t zone = 0; zone < CATROVINDY_ZONES; zone++) require(kept[zone] == zone + 1, "a refused shift leaves the weights");
+}
+
+static uint64_t weights_report_of(const char *text, uint64_t *bytes) {
+    return catrovindy_weights_report((const uint8_t *)text, strlen(text), weights_line, bytes);
+}
+
+/* The weights report: one line, and nothing behind it; a refused one leaves the buffer. */
+static void weights_reports(void) {
+    static const char line[] = "weights,2898884,22978326,145927014,366516130,366516130,145927014,22978326,0\n";
+    const size_t length = strlen(line);
+    uint8_t kept[CATROVINDY_WEIGHTS_SIZE];
+    uint64_t bytes = 77;
+    memset(kept, 0x5A, sizeof kept);
+    memset(weights_line, 0x5A, sizeof weights_line);
+    require(refused(weights_report_of("", &bytes), CATROVINDY_BAD_LINE, 1), "16 for an empty text");
+    require(refused(weights_report_of("shift,0", &bytes), CATROVINDY_BAD_LINE, 1), "16 for a line without its end");
+    require(refused(weights_report_of("shift,0\n0", &bytes), CATROVINDY_BAD_LINE, 2), "16 for what stands behind the line");
+    require(refused(weights_report_of("shift,151\n", &bytes), CATROVINDY_BAD_SHIFT, 0), "18 for a text with a shift beyond");
+    require(bytes == 77 && memcmp(weights_line, kept, sizeof kept) == 0, "a refused weights report leaves the buffer");
+    require(weights_report_of("shift,0\n", &bytes) == CATROVINDY_ACCEPTED, "a shift of 0 is accepted");
+    require(bytes == length && memcmp(weights_line, line, length) == 0, "the line of a shift of 0");
+    require(memcmp(weights_line + length, kept, sizeof kept - length) == 0, "the bytes after the line are kept");
+}
+
 int main(void) {
     require(catrovindy_version() == CATROVINDY_VERSION_NUMBER, "the library belongs to the header");
     null_lists();
@@ -163,5 +212,7 @@ int main(void) {
     full_count();
     plot_record();
     last_zone();
+    shifts();
+    weights_reports();
     return failed;
 }

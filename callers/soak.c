@@ -13,15 +13,16 @@
 #define READINGS 28
 #define CENTRE 50000
 #define SIGMA 400
+#define SHIFT 100 /* in hundredths of sigma */
 
 static const uint32_t rules[CATROVINDY_SLOTS] = CATROVINDY_WESTERN_ELECTRIC;
 static const uint32_t rule_count = CATROVINDY_WESTERN_ELECTRIC_COUNT;
 
 /*
- * A normal reading on a chart with the right centre and sigma: the chance of each zone, S A1 B1 C1 C2 B2 A2 C0, in units of 2^-30. C0 is the
- * centre itself, on which such a reading never lies.
+ * Normal readings: the chance of each zone, S A1 B1 C1 C2 B2 A2 C0, in units of 2^-30. First on a chart with the right centre and sigma,
+ * then with a mean that is one sigma too high.
  */
-static const uint32_t in_control[CATROVINDY_ZONES] = {2898884, 22978326, 145927014, 366516130, 366516130, 145927014, 22978326, 0};
+static uint32_t in_control[CATROVINDY_ZONES], shifted[CATROVINDY_ZONES];
 
 static const uint32_t percents[5] = {5, 25, 50, 75, 95};
 
@@ -31,10 +32,11 @@ static const int32_t readings[READINGS] = {50129, 49755, 50437, 49835, 49557, 50
 
 static const char table_text[] = "weights,0,536870912,0,0,536870912,0,0,0\nrule,2,2,2\nhorizon,4\n";
 static const char monitor_text[] = "chart,100,10\nrule,1,1,1\nrule,2,3,2\npoint,121\npoint,100\npoint,121\npoint,131\n";
+static const char weights_text[] = "shift,100\n";
 
 /* The lists of the table, and the buffers of the reports: too large for some stacks. */
 static uint64_t pmf[HORIZON], survival[HORIZON];
-static uint8_t table_lines[CATROVINDY_TABLE_SIZE], monitor_lines[CATROVINDY_MONITOR_SIZE];
+static uint8_t table_lines[CATROVINDY_TABLE_SIZE], monitor_lines[CATROVINDY_MONITOR_SIZE], weights_line[CATROVINDY_WEIGHTS_SIZE];
 
 /* For calls that this program knows to be accepted. */
 static void must(uint64_t code) {
@@ -54,11 +56,31 @@ static void check(void) {
     printf("version,%s\n", CATROVINDY_VERSION);
 }
 
+/* The weights of both cores: a planner knows the shift. */
+static void weigh(void) {
+    must(catrovindy_shift_weights(0, in_control));
+    must(catrovindy_shift_weights(SHIFT, shifted));
+}
+
 /* The chance of a signal by n: the exact one is at least the first and less than the second, in units of 2^-60. */
 static void print_by(uint64_t n, uint64_t states) {
     uint64_t by = 0;
     for (uint64_t i = 0; i < n; i++) by += pmf[i];
     printf("by,%" PRIu64 ",%" PRIu64 ",%" PRIu64 "\n", n, by, by + n * (states + 1));
+}
+
+/* Where a percentile of the run length lies. */
+static void print_percentile(uint32_t percent, uint64_t states) {
+    uint32_t answer[CATROVINDY_BRACKET_ANSWER];
+    must(catrovindy_bracket(pmf, HORIZON, (uint32_t)states, percent, answer));
+    printf("percentile,%" PRIu32 ",", percent);
+    uint32_t first = answer[CATROVINDY_BRACKET_FIRST], second = answer[CATROVINDY_BRACKET_SECOND];
+    switch (answer[CATROVINDY_BRACKET_KIND]) {
+    case CATROVINDY_AT: printf("at,%" PRIu32 "\n", first); break;
+    case CATROVINDY_BETWEEN: printf("between,%" PRIu32 ",%" PRIu32 "\n", first, second); break;
+    case CATROVINDY_OPEN: printf("open,%" PRIu32 "\n", first); break;
+    default: printf("beyond,%" PRIu32 "\n", first);
+    }
 }
 
 /* (a) How likely is a sound core to be flagged, and (b) after how many points? */
@@ -72,21 +94,20 @@ static void plan(void) {
     /* the exact mean is at least this, and at most the last number of units more */
     printf("mean,%" PRIu64 ",%" PRIu64 ",%" PRIu64 "\n", figures[CATROVINDY_FIGURE_MEAN_WHOLE], figures[CATROVINDY_FIGURE_MEAN_FRACTION],
            states * HORIZON * (HORIZON - 1) / 2);
-    for (int i = 0; i < 5; i++) {
-        uint32_t answer[CATROVINDY_BRACKET_ANSWER];
-        must(catrovindy_bracket(pmf, HORIZON, (uint32_t)states, percents[i], answer));
-        printf("percentile,%" PRIu32 ",", percents[i]);
-        uint32_t first = answer[CATROVINDY_BRACKET_FIRST], second = answer[CATROVINDY_BRACKET_SECOND];
-        switch (answer[CATROVINDY_BRACKET_KIND]) {
-        case CATROVINDY_AT: printf("at,%" PRIu32 "\n", first); break;
-        case CATROVINDY_BETWEEN: printf("between,%" PRIu32 ",%" PRIu32 "\n", first, second); break;
-        case CATROVINDY_OPEN: printf("open,%" PRIu32 "\n", first); break;
-        default: printf("beyond,%" PRIu32 "\n", first);
-        }
-    }
+    for (int i = 0; i < 5; i++) print_percentile(percents[i], states);
 }
 
-/* (c) The same percentiles and the mean's bounds as doubles, for a plotter; over 100 points only, so that the last ones lie beyond. */
+/* (c) And a core whose mean is one sigma too high? */
+static void plan_shifted(void) {
+    uint64_t figures[CATROVINDY_FIGURES];
+    must(catrovindy_table(rules, rule_count, shifted, HORIZON, pmf, HORIZON, survival, HORIZON, figures));
+    printf("shift,%d,", SHIFT);
+    print_by(48, figures[CATROVINDY_FIGURE_STATES]);
+    printf("shift,%d,", SHIFT);
+    print_percentile(50, figures[CATROVINDY_FIGURE_STATES]);
+}
+
+/* (d) The sound core's percentiles and mean as doubles, for a plotter; over 100 points only, so that the last ones lie beyond. */
 static void plot(void) {
     struct catrovindy_box_plot plot;
     must(catrovindy_fill_box_plot(rules, rule_count, in_control, 100, pmf, HORIZON, survival, HORIZON, &plot));
@@ -105,7 +126,7 @@ static void plot(void) {
     }
 }
 
-/* (d) The chart, reading by reading, from a fresh monitor: state 0, no points. */
+/* (e) The chart, reading by reading, from a fresh monitor: state 0, no points. */
 static void watch(uint64_t *state, uint32_t *points) {
     *state = 0;
     *points = 0;
@@ -120,7 +141,7 @@ static void watch(uint64_t *state, uint32_t *points) {
     printf("steps,%d,%" PRIu64 ",%" PRIu32 "\n", READINGS, *state, *points);
 }
 
-/* (e) The same series in batches: each stops at a signal, and the next one takes up the rest. */
+/* (f) The same series in batches: each stops at a signal, and the next one takes up the rest. */
 static void watch_batches(uint64_t *state, uint32_t *points) {
     size_t done = 0;
     *state = 0;
@@ -136,7 +157,7 @@ static void watch_batches(uint64_t *state, uint32_t *points) {
     printf("batches,%zu,%" PRIu64 ",%" PRIu32 "\n", done, *state, *points);
 }
 
-/* (f) A signal by two rules at once: of a list of one's own, the rules with index 0 and 1 hold at the second point. */
+/* (g) A signal by two rules at once: of a list of one's own, the rules with index 0 and 1 hold at the second point. */
 static void both(void) {
     static const uint32_t own[CATROVINDY_SLOTS] = {
         2, 2, CATROVINDY_SET_A_OR_B_ABOVE, /* both of the last two in A or B above the centre */
@@ -154,7 +175,7 @@ static void both(void) {
     printf("\n");
 }
 
-/* (g) A refusal: the second rule's set has a zone that does not exist. All that was lent is as it was. */
+/* (h) A refusal: the second rule's set has a zone that does not exist. All that was lent is as it was. */
 static void refusal(void) {
     uint32_t wrong[CATROVINDY_SLOTS] = CATROVINDY_WESTERN_ELECTRIC;
     uint64_t lent[2][3] = {{7, 7, 7}, {8, 8, 8}}, figures[CATROVINDY_FIGURES] = {9, 9, 9, 9};
@@ -168,20 +189,24 @@ static void refusal(void) {
     printf("meaning,%s\n", catrovindy_meaning(code));
 }
 
-/* (h) The two programs, text in and text out. */
+/* (i) The three programs, text in and text out. */
 static void reports(void) {
     uint64_t bytes;
     must(catrovindy_table_report((const uint8_t *)table_text, strlen(table_text), table_lines, &bytes));
     fwrite(table_lines, 1, bytes, stdout);
     must(catrovindy_monitor_report((const uint8_t *)monitor_text, strlen(monitor_text), monitor_lines, &bytes));
     fwrite(monitor_lines, 1, bytes, stdout);
+    must(catrovindy_weights_report((const uint8_t *)weights_text, strlen(weights_text), weights_line, &bytes));
+    fwrite(weights_line, 1, bytes, stdout);
 }
 
 int main(void) {
     uint64_t state, batch_state;
     uint32_t points, batch_points;
     check();
+    weigh();
     plan();
+    plan_shifted();
     plot();
     watch(&state, &points);
     watch_batches(&batch_state, &batch_points);

@@ -1,18 +1,17 @@
 //! A soak from Rust: plan it with the run-length table, then run the chart on the readings. soak.c does the same from C and C++, and all
 //! print the same lines. See build.sh for the commands.
-use catrovindy::{monitor_report, table, table_report, version, zone, SET_A_OR_B_ABOVE, SET_S, VERSION, VERSION_NUMBER};
+use catrovindy::{monitor_report, shift_weights, table, table_report, version, weights_report, zone};
 use catrovindy::{Batch, BoxPlot, Bracket, Monitor, PlotItem, Refusal, Rule, RuleList, Table, Weights};
+use catrovindy::{SET_A_OR_B_ABOVE, SET_S, VERSION, VERSION_NUMBER};
 use std::io::Write;
 
 const HORIZON: u32 = 1000;
 const CENTRE: i32 = 50_000;
 const SIGMA: u32 = 400;
+/// In hundredths of sigma.
+const SHIFT: i32 = 100;
 
 const RULES: RuleList = RuleList::western_electric();
-
-/// A normal reading on a chart with the right centre and sigma: the chance of each zone, S A1 B1 C1 C2 B2 A2 C0, in units of 2^-30. C0 is
-/// the centre itself, on which such a reading never lies.
-const IN_CONTROL: Weights = [2_898_884, 22_978_326, 145_927_014, 366_516_130, 366_516_130, 145_927_014, 22_978_326, 0];
 
 const PERCENTS: [u32; 5] = [5, 25, 50, 75, 95];
 
@@ -24,6 +23,7 @@ const READINGS: [i32; 28] = [
 
 const TABLE_TEXT: &[u8] = b"weights,0,536870912,0,0,536870912,0,0,0\nrule,2,2,2\nhorizon,4\n";
 const MONITOR_TEXT: &[u8] = b"chart,100,10\nrule,1,1,1\nrule,2,3,2\npoint,121\npoint,100\npoint,121\npoint,131\n";
+const WEIGHTS_TEXT: &[u8] = b"shift,100\n";
 
 /// Before all else: does the library belong to the crate, and are the rules accepted?
 fn check() -> Result<(), Box<dyn std::error::Error>> {
@@ -35,33 +35,48 @@ fn check() -> Result<(), Box<dyn std::error::Error>> {
     Ok(())
 }
 
-/// (a) How likely is a sound core to be flagged, and (b) after how many points?
-fn plan() -> Result<(), Refusal> {
-    let table = Table::new(&RULES, &IN_CONTROL, HORIZON)?;
-    let figures = table.figures;
-    println!("states,{}", figures.states);
-    for n in [48, HORIZON] {
-        // the exact chance of a signal by n is at least the first and less than the second, in units of 2^-60
-        let (low, high) = table.signal_by(n).unwrap_or_default();
-        println!("by,{n},{low},{high}");
-    }
-    // the exact mean is at least this, and at most the last number of units more
-    let h = u64::from(HORIZON);
-    println!("mean,{},{},{}", figures.mean_whole, figures.mean_fraction, u64::from(figures.states) * h * (h - 1) / 2);
-    for percent in PERCENTS {
-        match table.bracket(percent)? {
-            Bracket::At(n) => println!("percentile,{percent},at,{n}"),
-            Bracket::Between(low, high) => println!("percentile,{percent},between,{low},{high}"),
-            Bracket::Open(low) => println!("percentile,{percent},open,{low}"),
-            Bracket::Beyond(h) => println!("percentile,{percent},beyond,{h}"),
-        }
+/// The chance of a signal by n: the exact one is at least the first and less than the second, in units of 2^-60.
+fn print_by(n: u32, table: &Table) {
+    let (low, high) = table.signal_by(n).unwrap_or_default();
+    println!("by,{n},{low},{high}");
+}
+
+/// Where a percentile of the run length lies.
+fn print_percentile(percent: u32, table: &Table) -> Result<(), Refusal> {
+    match table.bracket(percent)? {
+        Bracket::At(n) => println!("percentile,{percent},at,{n}"),
+        Bracket::Between(low, high) => println!("percentile,{percent},between,{low},{high}"),
+        Bracket::Open(low) => println!("percentile,{percent},open,{low}"),
+        Bracket::Beyond(h) => println!("percentile,{percent},beyond,{h}"),
     }
     Ok(())
 }
 
-/// (c) The same percentiles and the mean's bounds as doubles, for a plotter; over 100 points only, so that the last ones lie beyond.
-fn plot() -> Result<(), Refusal> {
-    let plot = BoxPlot::new(&RULES, &IN_CONTROL, 100)?;
+/// (a) How likely is a sound core to be flagged, and (b) after how many points?
+fn plan(in_control: &Weights) -> Result<(), Refusal> {
+    let table = Table::new(&RULES, in_control, HORIZON)?;
+    let figures = table.figures;
+    println!("states,{}", figures.states);
+    print_by(48, &table);
+    print_by(HORIZON, &table);
+    // the exact mean is at least this, and at most the last number of units more
+    let h = u64::from(HORIZON);
+    println!("mean,{},{},{}", figures.mean_whole, figures.mean_fraction, u64::from(figures.states) * h * (h - 1) / 2);
+    PERCENTS.into_iter().try_for_each(|percent| print_percentile(percent, &table))
+}
+
+/// (c) And a core whose mean is one sigma too high?
+fn plan_shifted() -> Result<(), Refusal> {
+    let table = Table::new(&RULES, &shift_weights(SHIFT)?, HORIZON)?;
+    print!("shift,{SHIFT},");
+    print_by(48, &table);
+    print!("shift,{SHIFT},");
+    print_percentile(50, &table)
+}
+
+/// (d) The sound core's percentiles and mean as doubles, for a plotter; over 100 points only, so that the last ones lie beyond.
+fn plot(in_control: &Weights) -> Result<(), Refusal> {
+    let plot = BoxPlot::new(&RULES, in_control, 100)?;
     for (percent, item) in PERCENTS.into_iter().zip([plot.p5, plot.p25, plot.p50, plot.p75, plot.p95]) {
         match item {
             PlotItem::Point(n) => println!("plot,{percent},point,{n:.1}"),
@@ -78,7 +93,7 @@ fn plot() -> Result<(), Refusal> {
     Ok(())
 }
 
-/// (d) The chart, reading by reading, from a fresh monitor.
+/// (e) The chart, reading by reading, from a fresh monitor.
 fn watch() -> Result<Monitor, Refusal> {
     let mut monitor = Monitor::fresh();
     for (i, &reading) in READINGS.iter().enumerate() {
@@ -91,7 +106,7 @@ fn watch() -> Result<Monitor, Refusal> {
     Ok(monitor)
 }
 
-/// (e) The same series in batches: each stops at a signal, and the next one takes up the rest.
+/// (f) The same series in batches: each stops at a signal, and the next one takes up the rest.
 fn watch_batches() -> Result<Monitor, Refusal> {
     let mut monitor = Monitor::fresh();
     let mut done = 0;
@@ -109,7 +124,7 @@ fn watch_batches() -> Result<Monitor, Refusal> {
     Ok(monitor)
 }
 
-/// (f) A signal by two rules at once: of a list of one's own, the rules with index 0 and 1 hold at the second point.
+/// (g) A signal by two rules at once: of a list of one's own, the rules with index 0 and 1 hold at the second point.
 fn both() -> Result<(), Refusal> {
     let own = RuleList::new()
         .with(Rule::new(2, 2, SET_A_OR_B_ABOVE)) // both of the last two in A or B above the centre
@@ -123,11 +138,11 @@ fn both() -> Result<(), Refusal> {
     Ok(())
 }
 
-/// (g) A refusal: the second rule's set has a zone that does not exist. All that was lent is as it was.
-fn refusal() {
+/// (h) A refusal: the second rule's set has a zone that does not exist. All that was lent is as it was.
+fn refusal(in_control: &Weights) {
     let wrong: RuleList = RULES.rules().enumerate().map(|(i, rule)| if i == 1 { Rule { zones: 256, ..rule } } else { rule }).collect();
     let (mut pmf, mut survival) = ([7; 3], [8; 3]);
-    match table(&wrong, &IN_CONTROL, 3, &mut pmf, &mut survival) {
+    match table(&wrong, in_control, 3, &mut pmf, &mut survival) {
         Ok(_) => println!("accepted"),
         Err(refusal) => {
             let kept = if (pmf, survival) == ([7; 3], [8; 3]) { "kept" } else { "altered" };
@@ -137,21 +152,25 @@ fn refusal() {
     }
 }
 
-/// (h) The two programs, text in and text out.
+/// (i) The three programs, text in and text out.
 fn reports() -> Result<(), Box<dyn std::error::Error>> {
     let mut out = std::io::stdout();
     out.write_all(&table_report(TABLE_TEXT)?)?;
     out.write_all(&monitor_report(MONITOR_TEXT)?)?;
+    out.write_all(&weights_report(WEIGHTS_TEXT)?)?;
     Ok(())
 }
 
 fn main() -> Result<(), Box<dyn std::error::Error>> {
     check()?;
-    plan()?;
-    plot()?;
+    // a normal reading on a chart with the right centre and sigma: the chance of each zone, S A1 B1 C1 C2 B2 A2 C0, in units of 2^-30
+    let in_control = shift_weights(0)?;
+    plan(&in_control)?;
+    plan_shifted()?;
+    plot(&in_control)?;
     let (monitor, batched) = (watch()?, watch_batches()?);
     println!("{}", if monitor == batched { "alike" } else { "different" });
     both()?;
-    refusal();
+    refusal(&in_control);
     reports()
 }

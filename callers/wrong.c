@@ -30,6 +30,7 @@ uint64_t batch_answer[CATROVINDY_BATCH_ANSWER - SHORT_ANSWER], figures[CATROVIND
 uint32_t kinds[CATROVINDY_KINDS - SHORT_ANSWER];
 double values[CATROVINDY_VALUES - SHORT_VALUES];
 uint8_t table_lines[CATROVINDY_TABLE_SIZE - SHORT_ANSWER], monitor_lines[CATROVINDY_MONITOR_SIZE - SHORT_ANSWER];
+uint8_t weights_line[CATROVINDY_WEIGHTS_SIZE - SHORT_ANSWER];
 int32_t readings[3];
 uint8_t text[3];
 uint64_t pmf[5], survival[5], state, bytes, code;
@@ -59,6 +60,10 @@ int main(void) {
     KEEP catrovindy_table_report(text, 3, table_lines, &bytes);
 #elif defined(CALL_MONITOR_REPORT)
     KEEP catrovindy_monitor_report(text, 3, monitor_lines, &bytes);
+#elif defined(CALL_SHIFT_WEIGHTS)
+    KEEP catrovindy_shift_weights(0, weights);
+#elif defined(CALL_WEIGHTS_REPORT)
+    KEEP catrovindy_weights_report(text, 3, weights_line, &bytes);
 #else
 #error "which call?"
 #endif

@@ -53,8 +53,8 @@ extern "C" {
 /* ---- The version */
 
 /* The version of this header, as text and as major * 10000 + minor * 100 + patch. The Rust crate has the same. */
-#define CATROVINDY_VERSION "0.4.0"
-#define CATROVINDY_VERSION_NUMBER 400
+#define CATROVINDY_VERSION "0.5.0"
+#define CATROVINDY_VERSION_NUMBER 500
 
 /* The version of the library, as a number: CATROVINDY_VERSION_NUMBER where the library belongs to this header. It is no code. */
 uint32_t catrovindy_version(void);
@@ -68,6 +68,7 @@ uint32_t catrovindy_version(void);
 #define CATROVINDY_ALL_ZONES 255                      /* the largest zone set */
 #define CATROVINDY_MAX_SIGMA 65535                    /* the largest sigma; the least is 1 */
 #define CATROVINDY_WEIGHT_TOTAL 1073741824            /* 2^30: what the weights of all zones sum to */
+#define CATROVINDY_MAX_SHIFT 150                      /* the largest shift, in hundredths of sigma; the least is its negative */
 #define CATROVINDY_MAX_HORIZON 65535                  /* the largest horizon; the least is 1 */
 #define CATROVINDY_MAX_STATES 1024                    /* the most states of a table */
 #define CATROVINDY_MAX_COUNT 4294967295u              /* a monitor with this count takes no more points */
@@ -77,6 +78,7 @@ uint32_t catrovindy_version(void);
 #define CATROVINDY_MAX_ROWS 4096       /* the largest horizon of a table report */
 #define CATROVINDY_TABLE_SIZE 344544   /* the buffer of a table report */
 #define CATROVINDY_MONITOR_SIZE 401456 /* the buffer of a monitor report */
+#define CATROVINDY_WEIGHTS_SIZE 176    /* the buffer of a weights report */
 
 /* The places of each array that is written. */
 #define CATROVINDY_STEP_ANSWER 2
@@ -138,10 +140,11 @@ enum {
     CATROVINDY_BAD_PERCENT = 14,     /* the percent is outside 1 to 99 */
     CATROVINDY_BAD_CHANCES = 15,     /* the chances sum to more than 2^60 */
     CATROVINDY_BAD_LINE = 16,        /* a line is not the one expected, or cannot be read */
-    CATROVINDY_LONG_TEXT = 17        /* the text has more than 65,536 bytes */
+    CATROVINDY_LONG_TEXT = 17,       /* the text has more than 65,536 bytes */
+    CATROVINDY_BAD_SHIFT = 18        /* the shift is outside -150 to 150 hundredths of sigma */
 };
 
-/* The number of a code: 0 for an accepted call, else the refusal's, 1 to 17. */
+/* The number of a code: 0 for an accepted call, else the refusal's, 1 to 18. */
 static inline uint32_t catrovindy_number(uint64_t code) {
     return (uint32_t)(code & 0xFFFFFFFFu);
 }
@@ -172,6 +175,7 @@ static inline const char *catrovindy_meaning(uint64_t code) {
     case CATROVINDY_BAD_CHANCES: return "The chances sum to more than 2^60, which stands for one.";
     case CATROVINDY_BAD_LINE: return "A line of the text is missing, is not the one expected, or cannot be read.";
     case CATROVINDY_LONG_TEXT: return "The text has more than 65,536 bytes.";
+    case CATROVINDY_BAD_SHIFT: return "The shift is outside -150 to 150 hundredths of sigma.";
     default: return "There is no such refusal.";
     }
 }
@@ -253,6 +257,19 @@ enum {
     CATROVINDY_BATCH_REFUSAL = 3 /* answer[3]: 7 where a full count kept the next reading from being taken, else 0 */
 };
 
+/* ---- Weights for a shifted core */
+
+/*
+ * The weights of a normal reading whose mean is off the centre by a known shift. The table and the plot record accept the weights of every
+ * shift. A weight is what a table of normal areas, each to the nearest multiple of 2^-30, has between the limits of the zone.
+ *   shift: in hundredths of sigma, -CATROVINDY_MAX_SHIFT to CATROVINDY_MAX_SHIFT: above the centre where it is over 0, below where it is
+ *     under 0. A shift of 0 is in control.
+ *   weights: CATROVINDY_ZONES places, written only. Then holds the weights by the zones' numbers: C0's, the last, is 0, since such a
+ *     reading is never exactly on the centre, and S's is what is missing from CATROVINDY_WEIGHT_TOTAL.
+ * Refused by 18.
+ */
+CATROVINDY_CODE uint64_t catrovindy_shift_weights(int32_t shift, uint32_t weights[CATROVINDY_AT_LEAST CATROVINDY_ZONES]);
+
 /* ---- The run-length table */
 
 /*
@@ -260,7 +277,8 @@ enum {
  * by sums that are rounded down. The chance of a signal by n is the sum of the first n chances. The exact one is not less, and exceeds
  * it by less than n * (N + 1) units.
  *   slots, count: the rules.
- *   weights: CATROVINDY_ZONES numbers, by the zones' numbers, so that C0's is the last; a zone's chance is its weight over 2^30.
+ *   weights: CATROVINDY_ZONES numbers, by the zones' numbers, so that C0's is the last; a zone's chance is its weight over 2^30. For a
+ *     normal reading catrovindy_shift_weights makes them.
  *   horizon: H.
  *   pmf: `pmf_length` numbers, written only. Then pmf[n - 1] holds the chance of a signal at n; the places beyond H are kept.
  *   survival: `survival_length` numbers, written only. Then survival[n - 1] holds what is left at n; the places beyond H are kept.
@@ -355,7 +373,7 @@ struct catrovindy_box_plot {
     double iqr;       /* the interquartile range where both quartiles are at a point, else 0 */
 };
 
-/* ---- The two programs' reports */
+/* ---- The three programs' reports */
 
 /*
  * The table program's lines for a text of a line of CATROVINDY_ZONES weights, rule lines and a horizon line.
@@ -376,6 +394,17 @@ CATROVINDY_CODE uint64_t catrovindy_table_report(const uint8_t *text, size_t len
  */
 CATROVINDY_CODE uint64_t catrovindy_monitor_report(const uint8_t *text, size_t length,
                                                    uint8_t out[CATROVINDY_AT_LEAST CATROVINDY_MONITOR_SIZE],
+                                                   uint64_t bytes[CATROVINDY_AT_LEAST 1]);
+
+/*
+ * The weights program's line for a text of a shift line, as the table program takes it.
+ *   text: `length` bytes.
+ *   out: CATROVINDY_WEIGHTS_SIZE bytes, written only. Then begins with the line; the bytes after it are kept.
+ *   bytes: 1 place, written only. Then holds the number of bytes of the line.
+ * Refused by 17; 16; 18.
+ */
+CATROVINDY_CODE uint64_t catrovindy_weights_report(const uint8_t *text, size_t length,
+                                                   uint8_t out[CATROVINDY_AT_LEAST CATROVINDY_WEIGHTS_SIZE],
                                                    uint64_t bytes[CATROVINDY_AT_LEAST 1]);
 
 #ifdef __cplusplus
@@ -457,12 +486,20 @@ CATROVINDY_CODE static inline uint64_t catrovindy_call_monitor_report(const uint
     return catrovindy_monitor_report(length == 0 ? &none : text, length, out, bytes);
 }
 
+CATROVINDY_CODE static inline uint64_t catrovindy_call_weights_report(const uint8_t *text, size_t length,
+                                                                      CATROVINDY_ARRAY(uint8_t, out, CATROVINDY_WEIGHTS_SIZE),
+                                                                      CATROVINDY_ARRAY(uint64_t, bytes, 1)) {
+    const uint8_t none = 0;
+    return catrovindy_weights_report(length == 0 ? &none : text, length, out, bytes);
+}
+
 #define catrovindy_batch catrovindy_call_batch
 #define catrovindy_table catrovindy_call_table
 #define catrovindy_bracket catrovindy_call_bracket
 #define catrovindy_plot catrovindy_call_plot
 #define catrovindy_table_report catrovindy_call_table_report
 #define catrovindy_monitor_report catrovindy_call_monitor_report
+#define catrovindy_weights_report catrovindy_call_weights_report
 
 #ifdef __cplusplus
 
@@ -481,9 +518,14 @@ CATROVINDY_CODE static inline uint64_t catrovindy_call_step(CATROVINDY_ARRAY(con
     return catrovindy_step(slots, count, state, points, zone, answer);
 }
 
+CATROVINDY_CODE static inline uint64_t catrovindy_call_shift_weights(int32_t shift, CATROVINDY_ARRAY(uint32_t, weights, CATROVINDY_ZONES)) {
+    return catrovindy_shift_weights(shift, weights);
+}
+
 #define catrovindy_check catrovindy_call_check
 #define catrovindy_zone catrovindy_call_zone
 #define catrovindy_step catrovindy_call_step
+#define catrovindy_shift_weights catrovindy_call_shift_weights
 
 #endif
 

@@ -179,6 +179,18 @@ pub fn box_plot(
     Ok(BoxPlot { p5: at(0), p25: at(1), p50: at(2), p75: at(3), p95: at(4), lower: values[10], upper: values[11], iqr })
 }
 
+pub fn shift_weights(shift: i32) -> Result<[u32; ZONES], Refusal> {
+    let kept = [0xBAD0_F00Du32; ZONES];
+    let mut weights = kept;
+    // SAFETY: the array has the size that the header gives.
+    let code = unsafe { raw::catrovindy_shift_weights(shift, weights.as_mut_ptr()) };
+    if let Err(refusal) = Refusal::check(code) {
+        assert_eq!(weights, kept, "a refusal altered the weights");
+        return Err(refusal);
+    }
+    Ok(weights)
+}
+
 type Report = unsafe extern "C" fn(*const u8, usize, *mut u8, *mut u64) -> u64;
 
 /// The bytes of a report in the buffer, whose other places the caller looks at.
@@ -204,4 +216,9 @@ pub fn table_report(text: &[u8], out: &mut [u8; catrovindy::TABLE_SIZE]) -> Resu
 pub fn monitor_report(text: &[u8], out: &mut [u8; catrovindy::MONITOR_SIZE]) -> Result<usize, Refusal> {
     // SAFETY: the buffer has the size of a monitor report.
     unsafe { report(raw::catrovindy_monitor_report, text, out) }
+}
+
+pub fn weights_report(text: &[u8], out: &mut [u8; catrovindy::WEIGHTS_SIZE]) -> Result<usize, Refusal> {
+    // SAFETY: the buffer has the size of a weights report.
+    unsafe { report(raw::catrovindy_weights_report, text, out) }
 }

@@ -10,10 +10,12 @@ pub mod monitor_program;
 pub mod monitors;
 pub mod plot;
 pub mod ring;
+pub mod shift;
 pub mod table;
 pub mod table_program;
 pub mod tally;
 pub mod texts;
+pub mod weights_program;
 
 pub use catrovindy::{Refusal, Rule};
 

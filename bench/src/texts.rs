@@ -1,4 +1,4 @@
-//! Texts for the two programs: as a planner or a bench writes them, and damaged.
+//! Texts for the three programs: as a planner or a bench writes them, and damaged.
 use crate::inputs::Source;
 
 impl Source {
@@ -75,10 +75,45 @@ impl Source {
         text.into_bytes()
     }
 
+    /// A shift: mostly accepted, seldom next to the bounds, at an end of 32 bits or beyond it, or badly written.
+    fn shift(&mut self) -> String {
+        let near = self.below(301) as i64 - 150;
+        match self.below(40) {
+            0 => "151".into(),
+            1 => "-151".into(),
+            2 => i32::MIN.to_string(),
+            3 => i32::MAX.to_string(),
+            4 => (self.next() as i32).to_string(),
+            5 => (i64::from(i32::MIN) - 1).to_string(),
+            6 => (i64::from(i32::MAX) + 1).to_string(),
+            7 => "-0".into(),
+            8 => "+1".into(),
+            9 => format!("0{near}"),
+            10 => "-01".into(),
+            11 => ["150", "-150", "0"][self.below(3) as usize].into(),
+            _ => near.to_string(),
+        }
+    }
+
+    /// A text that is mostly accepted; now and then without its LF, or with something behind the line.
+    pub fn shift_text(&mut self) -> Vec<u8> {
+        let end = match self.below(40) {
+            0 => "",
+            1 => "\r\n",
+            2 => "\n\n",
+            3 => "\n0",
+            4 => "\nshift,0\n",
+            _ => "\n",
+        };
+        format!("shift,{}{end}", self.shift()).into_bytes()
+    }
+
     /// One wrong thing, or more.
     pub fn damage(&mut self, text: &mut Vec<u8>) {
-        let pieces: [&[u8]; 16] =
-            [b"0", b"-", b"+", b",", b"\n", b"\r", b"\0", b" ", b"00", b"-0", b"4294967295", b"4294967296", b"rule,1,1,1\n", b"horizon,2\n", b"point,1\n", b"\n\n"];
+        let pieces: [&[u8]; 17] = [
+            b"0", b"-", b"+", b",", b"\n", b"\r", b"\0", b" ", b"00", b"-0", b"4294967295", b"4294967296", b"rule,1,1,1\n", b"horizon,2\n",
+            b"point,1\n", b"shift,1\n", b"\n\n",
+        ];
         for _ in 0..1 + self.below(2) {
             let at = self.below(text.len() as u64 + 1) as usize;
             match self.below(6) {
@@ -93,7 +128,7 @@ impl Source {
                 }
                 4 if self.once_in(200) => text.resize([65_536, 65_537, 70_000][self.below(3) as usize], b'\n'),
                 _ => {
-                    let piece = pieces[self.below(16) as usize];
+                    let piece = pieces[self.below(17) as usize];
                     text.splice(at..at, piece.iter().copied());
                 }
             }

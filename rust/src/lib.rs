@@ -4,8 +4,9 @@
 //! the zones of Z; where fewer than m points exist, all of them count. A chart signals where some rule of its [`RuleList`] holds, and a
 //! signal clears it. The run length is the number of the first point that signals. A unit is 2^-60.
 //!
-//! A planner asks for the run length: [`table()`], [`Table`], [`bracket`], [`box_plot`]. A bench runs the chart: [`zone()`], [`Monitor`].
-//! [`table_report`] and [`monitor_report`] are the two programs, text in and text out.
+//! A planner asks for the run length: [`table()`], [`Table`], [`bracket`], [`box_plot`]. For a normal reading, shifted or not, the weights
+//! come from [`shift_weights`]. A bench runs the chart: [`zone()`], [`Monitor`]. [`table_report`], [`monitor_report`] and [`weights_report`]
+//! are the three programs, text in and text out.
 //!
 //! Every function takes any input. What it does not accept it refuses: see [`Refusal`]. A refused call alters nothing that was lent. What a
 //! function only writes to is marked `written only`. The functions keep nothing between calls, so that any number of threads may call them.
@@ -33,6 +34,7 @@ pub mod raw;
 mod refusal;
 mod report;
 mod rules;
+mod shift;
 mod table;
 mod version;
 mod zone;
@@ -40,8 +42,10 @@ mod zone;
 pub use monitor::{Batch, Monitor, Point, MAX_COUNT};
 pub use plot::{box_plot, BoxPlot, PlotItem};
 pub use refusal::Refusal;
-pub use report::{monitor_report, monitor_report_into, table_report, table_report_into, MAX_ROWS, MAX_TEXT, MONITOR_SIZE, TABLE_SIZE};
+pub use report::{monitor_report, monitor_report_into, table_report, table_report_into, weights_report, weights_report_into};
+pub use report::{MAX_ROWS, MAX_TEXT, MONITOR_SIZE, TABLE_SIZE, WEIGHTS_SIZE};
 pub use rules::{Rule, RuleList, MAX_RULES, MAX_WINDOW};
+pub use shift::{shift_weights, MAX_SHIFT};
 pub use table::{bracket, table, Bracket, Figures, Table, MAX_HORIZON, MAX_STATES, UNITS_PER_ONE, WEIGHT_TOTAL};
 pub use version::{version, VERSION, VERSION_NUMBER};
 pub use zone::{zone, Weights, A1, A2, ALL_ZONES, B1, B2, C0, C1, C2, MAX_SIGMA, S, ZONES};

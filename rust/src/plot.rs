@@ -51,9 +51,9 @@ impl BoxPlot {
 /// Refused as the table is: by 2; then rule by rule 3, 4; 8; 9; 10; 11, in this order, and both lists are then as they were.
 ///
 /// ```
-/// use catrovindy::{BoxPlot, PlotItem, RuleList};
+/// use catrovindy::{shift_weights, BoxPlot, PlotItem, RuleList};
 ///
-/// let in_control = [2_898_884, 22_978_326, 145_927_014, 366_516_130, 366_516_130, 145_927_014, 22_978_326, 0];
+/// let in_control = shift_weights(0)?;
 /// let plot = BoxPlot::new(&RuleList::western_electric(), &in_control, 1000)?;
 /// assert_eq!((plot.p50, plot.iqr), (PlotItem::Point(65.0), Some(97.0)));
 /// assert!(91.7 < plot.lower && plot.lower < plot.upper && plot.upper < 91.8);

@@ -81,7 +81,7 @@ pub const VALUE_UPPER: usize = 11;
 /// In a plot record's values: the interquartile range, or 0.
 pub const VALUE_IQR: usize = 12;
 
-/// The number of a code: 0 for an accepted call, else the refusal's, 1 to 17.
+/// The number of a code: 0 for an accepted call, else the refusal's, 1 to 18.
 #[must_use]
 pub const fn number(code: u64) -> u32 {
     code as u32
@@ -137,6 +137,13 @@ mod exported {
             answer: *mut u64,
         ) -> u64;
 
+        /// The weights of a shifted core: the code.
+        ///
+        /// # Safety
+        /// `weights` are [`ZONES`](crate::ZONES) numbers, written only.
+        #[must_use]
+        pub fn catrovindy_shift_weights(shift: i32, weights: *mut u32) -> u64;
+
         pub fn catrovindy_table(
             slots: *const u32,
             count: u32,
@@ -167,10 +174,12 @@ mod exported {
         pub fn catrovindy_table_report(text: *const u8, length: usize, out: *mut u8, bytes: *mut u64) -> u64;
 
         pub fn catrovindy_monitor_report(text: *const u8, length: usize, out: *mut u8, bytes: *mut u64) -> u64;
+
+        pub fn catrovindy_weights_report(text: *const u8, length: usize, out: *mut u8, bytes: *mut u64) -> u64;
     }
 }
 
-pub use exported::{catrovindy_check, catrovindy_step, catrovindy_version, catrovindy_zone};
+pub use exported::{catrovindy_check, catrovindy_shift_weights, catrovindy_step, catrovindy_version, catrovindy_zone};
 
 /// The start of a list that is read; for a list of length 0 a pointer that is not null.
 const fn start<T>(list: *const T, length: usize) -> *const T {
@@ -290,6 +299,16 @@ pub unsafe extern "C" fn catrovindy_table_report(text: *const u8, length: usize,
 pub unsafe extern "C" fn catrovindy_monitor_report(text: *const u8, length: usize, out: *mut u8, bytes: *mut u64) -> u64 {
     // SAFETY: as the caller's, and the list is not null.
     unsafe { exported::catrovindy_monitor_report(start(text, length), length, out, bytes) }
+}
+
+/// The weights program's line for a text: the code.
+///
+/// # Safety
+/// `text` are as many bytes as `length` says; `out` are [`WEIGHTS_SIZE`](crate::WEIGHTS_SIZE) bytes and `bytes` one number, written only.
+#[must_use]
+pub unsafe extern "C" fn catrovindy_weights_report(text: *const u8, length: usize, out: *mut u8, bytes: *mut u64) -> u64 {
+    // SAFETY: as the caller's, and the list is not null.
+    unsafe { exported::catrovindy_weights_report(start(text, length), length, out, bytes) }
 }
 
 #[cfg(test)]

@@ -13,7 +13,7 @@ use std::fmt;
 /// ```
 #[derive(Clone, Copy, Debug, PartialEq, Eq, Hash)]
 pub struct Refusal {
-    /// 1 to 17.
+    /// 1 to 18.
     pub number: u32,
     /// The rule's index from 0 for 3 and 4, the line from 1 for 16, else 0.
     pub place: u32,
@@ -54,6 +54,8 @@ impl Refusal {
     pub const BAD_LINE: u32 = 16;
     /// The text has more than 65,536 bytes.
     pub const LONG_TEXT: u32 = 17;
+    /// The shift is outside -150 to 150 hundredths of sigma.
+    pub const BAD_SHIFT: u32 = 18;
 
     /// What the code of an exported function says: 0 is accepted.
     pub const fn check(code: u64) -> Result<(), Refusal> {
@@ -85,6 +87,7 @@ impl Refusal {
             Refusal::BAD_CHANCES => "The chances sum to more than 2^60, which stands for one.",
             Refusal::BAD_LINE => "A line of the text is missing, is not the one expected, or cannot be read.",
             Refusal::LONG_TEXT => "The text has more than 65,536 bytes.",
+            Refusal::BAD_SHIFT => "The shift is outside -150 to 150 hundredths of sigma.",
             _ => "There is no such refusal.",
         }
     }

@@ -1,4 +1,4 @@
-//! The two programs: text in, text out.
+//! The three programs: text in, text out.
 use crate::{raw, Refusal};
 
 /// The most bytes that a text may have.
@@ -12,6 +12,9 @@ pub const TABLE_SIZE: usize = 344_544;
 
 /// Room for the monitor program's lines for the longest text.
 pub const MONITOR_SIZE: usize = 401_456;
+
+/// Room for the weights program's line.
+pub const WEIGHTS_SIZE: usize = 176;
 
 /// The table program's lines for a text of a line of eight weights, rule lines and a horizon line.
 ///
@@ -49,6 +52,24 @@ pub fn monitor_report(text: &[u8]) -> Result<Vec<u8>, Refusal> {
     Ok(out)
 }
 
+/// The weights program's line for a text of a shift line, as the table program takes it.
+///
+/// Refused by 17; 16; 18, in this order.
+///
+/// ```
+/// let line = catrovindy::weights_report(b"shift,0\n");
+/// assert_eq!(line, Ok(b"weights,2898884,22978326,145927014,366516130,366516130,145927014,22978326,0\n".to_vec()));
+/// let refusal = catrovindy::weights_report(b"shift,151\n").unwrap_err();
+/// assert_eq!((refusal.number, refusal.place), (18, 0));
+/// ```
+pub fn weights_report(text: &[u8]) -> Result<Vec<u8>, Refusal> {
+    let mut out = vec![0; WEIGHTS_SIZE];
+    // SAFETY: the buffer has the size of a weights report.
+    let bytes = unsafe { written(raw::catrovindy_weights_report, text, out.as_mut_ptr()) }?;
+    out.truncate(bytes);
+    Ok(out)
+}
+
 /// As [`table_report`], but into the caller's buffer: how many bytes the lines have. `out` is written only; the bytes after the lines are
 /// kept, and all of them where the text is refused.
 pub fn table_report_into(text: &[u8], out: &mut [u8; TABLE_SIZE]) -> Result<usize, Refusal> {
@@ -61,6 +82,13 @@ pub fn table_report_into(text: &[u8], out: &mut [u8; TABLE_SIZE]) -> Result<usiz
 pub fn monitor_report_into(text: &[u8], out: &mut [u8; MONITOR_SIZE]) -> Result<usize, Refusal> {
     // SAFETY: the buffer has the size of a monitor report.
     unsafe { written(raw::catrovindy_monitor_report, text, out.as_mut_ptr()) }
+}
+
+/// As [`weights_report`], but into the caller's buffer: how many bytes the line has. `out` is written only; the bytes after the line are
+/// kept, and all of them where the text is refused.
+pub fn weights_report_into(text: &[u8], out: &mut [u8; WEIGHTS_SIZE]) -> Result<usize, Refusal> {
+    // SAFETY: the buffer has the size of a weights report.
+    unsafe { written(raw::catrovindy_weights_report, text, out.as_mut_ptr()) }
 }
 
 type Report = unsafe extern "C" fn(*const u8, usize, *mut u8, *mut u64) -> u64;

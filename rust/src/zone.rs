@@ -4,7 +4,8 @@ use crate::{raw, Refusal};
 /// How many zones there are, numbered from 0.
 pub const ZONES: usize = 8;
 
-/// The weight of each zone, by its number, so that C0's is the last: its chance is its weight over 2^30, and all sum to 2^30.
+/// The weight of each zone, by its number, so that C0's is the last: its chance is its weight over 2^30, and all sum to 2^30. For a normal
+/// reading [`shift_weights`](crate::shift_weights) makes them.
 pub type Weights = [u32; ZONES];
 
 /// The largest sigma; the least is 1.

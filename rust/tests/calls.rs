@@ -1,8 +1,8 @@
 //! Every function once or more: answers that are known, inputs out of bounds, null lists, little stack, many threads.
 use catrovindy::{
-    box_plot, bracket, monitor_report, raw, table, table_report, zone, Batch, BoxPlot, Bracket, Monitor, PlotItem, Point, Refusal, Rule,
-    RuleList, Table, Weights, A1, ALL_ZONES, B1, C0, C1, MAX_COUNT, MAX_TEXT, MONITOR_SIZE, S, SET_A1, SET_ABOVE, SET_A_OR_B_ABOVE,
-    SET_BELOW, SET_C0, SET_S, TABLE_SIZE, ZONES,
+    box_plot, bracket, monitor_report, raw, shift_weights, table, table_report, weights_report, weights_report_into, zone, Batch, BoxPlot,
+    Bracket, Monitor, PlotItem, Point, Refusal, Rule, RuleList, Table, Weights, A1, ALL_ZONES, B1, C0, C1, MAX_COUNT, MAX_SHIFT, MAX_TEXT,
+    MONITOR_SIZE, S, SET_A1, SET_ABOVE, SET_A_OR_B_ABOVE, SET_BELOW, SET_C0, SET_S, TABLE_SIZE, WEIGHTS_SIZE, WEIGHT_TOTAL, ZONES,
 };
 use std::ptr::{null, null_mut};
 
@@ -182,6 +182,8 @@ fn null_lists_of_length_0() {
         assert_eq!((raw::number(code), raw::place(code)), (16, 1));
         let code = raw::catrovindy_monitor_report(null(), 0, out.as_mut_ptr(), &mut bytes);
         assert_eq!((raw::number(code), raw::place(code)), (16, 1));
+        let code = raw::catrovindy_weights_report(null(), 0, out.as_mut_ptr(), &mut bytes);
+        assert_eq!((raw::number(code), raw::place(code)), (16, 1));
     }
 }
 
@@ -234,6 +236,89 @@ fn a_plot_is_the_table_in_doubles() {
     assert!(plot.lower <= mean && mean <= plot.upper && plot.upper - plot.lower < 1e-9);
 }
 
+/// The weights of a shift below the centre are those of the same shift above it, with the sides swapped.
+fn swapped([s, a1, b1, c1, c2, b2, a2, c0]: Weights) -> Weights {
+    [s, a2, b2, c2, c1, b1, a1, c0]
+}
+
+#[test]
+fn weights_of_shifts() {
+    let one = [2_900_312, 23_515_569, 147_952_595, 368_188_538, 364_817_742, 143_915_818, 22_451_250, 0];
+    let largest = [71_737_334, 259_555_974, 411_162_504, 259_555_974, 65_066_109, 6_417_793, 246_136, 0];
+    for (shift, weights) in [(0, IN_CONTROL), (1, one), (MAX_SHIFT, largest)] {
+        assert_eq!(shift_weights(shift), Ok(weights), "shift {shift}");
+        assert_eq!(shift_weights(-shift), Ok(swapped(weights)), "shift -{shift}");
+    }
+    for shift in -MAX_SHIFT..=MAX_SHIFT {
+        let weights = shift_weights(shift).expect("accepted");
+        assert_eq!((weights.iter().sum::<u32>(), weights[C0 as usize]), (WEIGHT_TOTAL, 0), "shift {shift}");
+        assert!(Table::new(&RuleList::duncan(), &weights, 2).is_ok(), "the table with shift {shift}");
+    }
+}
+
+#[test]
+fn a_shift_out_of_bounds_leaves_the_weights() {
+    for shift in [MAX_SHIFT + 1, -MAX_SHIFT - 1, 400, -400, i32::MAX, i32::MIN] {
+        assert_eq!(refused(shift_weights(shift)), (18, 0), "shift {shift}");
+        let mut weights = [7; ZONES];
+        // SAFETY: the array has its size.
+        let code = unsafe { raw::catrovindy_shift_weights(shift, weights.as_mut_ptr()) };
+        assert_eq!((raw::number(code), raw::place(code), weights), (18, 0, [7; ZONES]), "shift {shift}");
+    }
+}
+
+/// The shifted core is flagged sooner: with the weights typed by hand or made from the shift, the table is the same.
+#[test]
+fn a_table_for_a_shifted_core() {
+    let rules = RuleList::western_electric();
+    let by_hand = [24_461_775, 145_927_014, 366_516_130, 366_516_130, 145_927_014, 22_978_326, 1_415_435, 0];
+    let shifted = Table::new(&rules, &shift_weights(100).expect("accepted"), 48).expect("accepted");
+    assert_eq!(Ok(&shifted), Table::new(&rules, &by_hand, 48).as_ref());
+    assert_eq!(shifted.signal_by(48).map(|(low, _)| low), Some(1_152_186_350_332_113_546));
+    let sound = Table::new(&rules, &shift_weights(0).expect("accepted"), 48).expect("accepted");
+    assert_eq!(sound.signal_by(48).map(|(low, _)| low), Some(459_795_406_632_811_437));
+}
+
+#[test]
+fn texts_of_shifts() {
+    let line = |weights: Weights| format!("weights,{}\n", weights.map(|w| w.to_string()).join(","));
+    for shift in [-150, -1, 0, 100, 150] {
+        let expected = line(shift_weights(shift).expect("accepted"));
+        let text = format!("shift,{shift}\n");
+        assert_eq!(weights_report(text.as_bytes()), Ok(expected.clone().into_bytes()), "{text}");
+        let mut out = [9; WEIGHTS_SIZE];
+        assert_eq!(weights_report_into(text.as_bytes(), &mut out), Ok(expected.len()), "{text}");
+        assert!(out.starts_with(expected.as_bytes()) && out[expected.len()..].iter().all(|&b| b == 9), "the buffer of {text}");
+        // the line is the one that the table program takes
+        let whole = format!("{expected}rule,1,1,1\nhorizon,2\n");
+        assert!(table_report(whole.as_bytes()).is_ok(), "{whole}");
+    }
+    for (text, place) in [
+        ("", 1),
+        ("shift,0", 1),
+        ("shift,\n", 1),
+        ("shift,-0\n", 1),
+        ("shift,+1\n", 1),
+        ("shift,01\n", 1),
+        ("shift,2147483648\n", 1),
+        ("shift,-2147483649\n", 1),
+        ("shift,0,0\n", 1),
+        ("shift,0\r\n", 1),
+        ("weights,0\n", 1),
+        ("shift,0\nshift,0\n", 2),
+        ("shift,151\n\n", 2),
+        ("shift,0\n0", 2),
+    ] {
+        let mut out = [9; WEIGHTS_SIZE];
+        assert_eq!((refused(weights_report_into(text.as_bytes(), &mut out)), out), ((16, place), [9; WEIGHTS_SIZE]), "{text}");
+    }
+    for text in ["shift,151\n", "shift,-151\n", "shift,2147483647\n", "shift,-2147483648\n"] {
+        assert_eq!(refused(weights_report(text.as_bytes())), (18, 0), "{text}");
+    }
+    assert_eq!(refused(weights_report(&vec![b'\n'; MAX_TEXT])), (16, 1));
+    assert_eq!(refused(weights_report(&vec![b'\n'; MAX_TEXT + 1])), (17, 0));
+}
+
 #[test]
 fn refusals_in_words() {
     let refusal = Monitor::fresh().step(&RuleList::duncan().with(Rule::new(1, 1, 256)), C1).expect_err("a refusal");
@@ -264,7 +349,8 @@ fn little_stack_and_many_threads() {
         let lines = table_report(text).expect("accepted");
         let plot = BoxPlot::new(&RuleList::western_electric(), &IN_CONTROL, 300).expect("accepted");
         let watched = monitor_report(b"chart,0,1\nrule,1,1,1\npoint,4\n").expect("accepted");
-        (lines, plot, watched)
+        let weighed = (shift_weights(100).expect("accepted"), weights_report(b"shift,-100\n").expect("accepted"));
+        (lines, plot, watched, weighed)
     };
     let threads: Vec<_> = (0..4).map(|_| std::thread::Builder::new().stack_size(256 << 10).spawn(work).expect("a thread")).collect();
     let mut answers = threads.into_iter().map(|thread| thread.join().expect("an answer"));

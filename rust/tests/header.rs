@@ -95,6 +95,7 @@ fn ours() -> Numbers {
         ("ZONES", ZONES as u64),
         ("ALL_ZONES", ALL_ZONES.into()),
         ("MAX_SIGMA", MAX_SIGMA.into()),
+        ("MAX_SHIFT", MAX_SHIFT as u64),
         ("WEIGHT_TOTAL", WEIGHT_TOTAL.into()),
         ("MAX_HORIZON", MAX_HORIZON.into()),
         ("MAX_STATES", MAX_STATES.into()),
@@ -104,6 +105,7 @@ fn ours() -> Numbers {
         ("MAX_ROWS", MAX_ROWS.into()),
         ("TABLE_SIZE", TABLE_SIZE as u64),
         ("MONITOR_SIZE", MONITOR_SIZE as u64),
+        ("WEIGHTS_SIZE", WEIGHTS_SIZE as u64),
         ("STEP_ANSWER", raw::STEP_ANSWER as u64),
         ("BATCH_ANSWER", raw::BATCH_ANSWER as u64),
         ("BRACKET_ANSWER", raw::BRACKET_ANSWER as u64),
@@ -158,6 +160,7 @@ fn ours() -> Numbers {
         ("BAD_CHANCES", Refusal::BAD_CHANCES.into()),
         ("BAD_LINE", Refusal::BAD_LINE.into()),
         ("LONG_TEXT", Refusal::LONG_TEXT.into()),
+        ("BAD_SHIFT", Refusal::BAD_SHIFT.into()),
     ]);
     // the kinds, and the places of the arrays
     add(&[
@@ -205,7 +208,7 @@ fn versions_agree() {
 fn the_header_has_the_proved_sizes() {
     let (_, proved) = proved();
     let declared = declared();
-    assert!(proved.len() >= 49, "{} numbers are too few", proved.len());
+    assert!(proved.len() >= 52, "{} numbers are too few", proved.len());
     for (name, value) in &proved {
         assert_eq!(declared.get(name), Some(value), "{name} in the header");
     }
@@ -309,7 +312,7 @@ fn refusals_have_the_same_words() {
         };
         words.insert(number, meaning.strip_suffix("\";").expect("the end of the words"));
     }
-    let expected: Vec<u64> = (0..=17).chain([u32::MAX.into()]).collect();
+    let expected: Vec<u64> = (0..=18).chain([u32::MAX.into()]).collect();
     assert_eq!(words.keys().copied().collect::<Vec<_>>(), expected);
     for (number, meaning) in words {
         let refusal = Refusal { number: number as u32, place: 3 };
@@ -317,7 +320,7 @@ fn refusals_have_the_same_words() {
         assert!(meaning.ends_with('.') && meaning.matches('.').count() == 1, "one sentence: {meaning}");
         assert_eq!(refusal.to_string(), format!("refused by {}, place 3: {meaning}", number as u32));
     }
-    assert_eq!(Refusal { number: 18, place: 0 }.meaning(), Refusal { number: u32::MAX, place: 0 }.meaning());
+    assert_eq!(Refusal { number: 19, place: 0 }.meaning(), Refusal { number: u32::MAX, place: 0 }.meaning());
 }
 
 /// A parameter: the type of its numbers, whether they may be written, the number of places of an array by its name, and its own name.
@@ -437,7 +440,7 @@ fn raw_functions() -> BTreeMap<String, Vec<Parameter>> {
 #[test]
 fn functions_are_declared_as_in_the_source() {
     let mut source = source_functions();
-    assert!(source.len() >= 10, "{} functions are too few", source.len());
+    assert!(source.len() >= 12, "{} functions are too few", source.len());
     assert_eq!(header_functions(), source);
     for parameter in source.values_mut().flatten() {
         parameter.2 = parameter.2.take().map(|_| "pointer".into());

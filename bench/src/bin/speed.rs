@@ -3,9 +3,10 @@
 use bench::inputs::Source;
 use bench::monitor_program::monitor_program;
 use bench::ring::{zone, Ring};
+use bench::shift::{self, weights_by};
 use bench::table_program::table_program;
 use bench::{duncan, large, lent, table, western_electric, Rule, CENTRED, IN_CONTROL, RARE, ZONES};
-use catrovindy::{Monitor, MONITOR_SIZE, TABLE_SIZE};
+use catrovindy::{shift_weights, Monitor, MAX_SHIFT, MONITOR_SIZE, TABLE_SIZE};
 use std::hint::black_box;
 use std::time::Instant;
 
@@ -152,9 +153,33 @@ fn programs() {
     println!("table, Western Electric to 4,096: proved {:.2} ms, plain {:.2} ms, ratio {:.2}", ours * 1e3, theirs * 1e3, theirs / ours);
 }
 
+/// The weights of every shift, many times: one call is too short to be measured.
+fn all_shifts(times: u32, mut weights: impl FnMut(i32) -> [u32; ZONES]) {
+    for _ in 0..times {
+        for shift in -MAX_SHIFT..=MAX_SHIFT {
+            black_box(weights(black_box(shift)));
+        }
+    }
+}
+
+/// Weights of shifts. The plain version takes its areas from a table that was made beforehand.
+fn shifts() {
+    let (times, areas) = (2_000, *shift::areas());
+    let (ours, theirs) = turns(
+        20,
+        || all_shifts(times, |shift| shift_weights(shift).expect("accepted")),
+        || all_shifts(times, |shift| weights_by(black_box(&areas), shift).expect("accepted")),
+    );
+    let count = 2 * MAX_SHIFT + 1;
+    let each = 1e9 / f64::from(times) / f64::from(count);
+    println!("{count} shifts, {times} times: proved {:.1} ns a shift, plain {:.1} ns, ratio {:.2}", ours * each, theirs * each, theirs / ours);
+}
+
 fn main() {
     println!("points, batch by batch:");
     points();
+    println!("weights of a shift:");
+    shifts();
     println!("whole texts:");
     programs();
     println!("tables with units in every row to the last:");
