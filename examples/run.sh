@@ -1,10 +1,11 @@
 #!/usr/bin/env bash
-# Runs every example through the built program that its first word asks for, and compares what it prints with the file beside it.
+# Runs every example through the built program that its first word asks for, and compares what it prints with the file beside it. Then looks
+# whether the weights of the normal cores at 0, 0.5 and 1 sigma are those that runs_weights prints.
 set -euo pipefail
 cd "$(dirname "${BASH_SOURCE[0]}")"
 bin=../target/bin
 
-for program in runs_table runs_monitor; do
+for program in runs_table runs_monitor runs_weights; do
   if [ ! -x "$bin/$program" ]; then
     echo "target/bin/$program is missing: build it with 'rt check' at the root of the repository" >&2
     exit 1
@@ -22,8 +23,9 @@ for text in "${texts[@]}"; do
   case $word in
     weights) program=runs_table ;;
     chart) program=runs_monitor ;;
+    shift) program=runs_weights ;;
     *)
-      echo "FAILED $text: its first word is neither 'weights' nor 'chart'"
+      echo "FAILED $text: its first word is none of 'weights', 'chart' and 'shift'"
       failed=$((failed + 1))
       continue
       ;;
@@ -55,6 +57,32 @@ if [ "${#texts[@]}" -eq 0 ]; then
   echo "FAILED: no example found"
   exit 1
 fi
+
+# The name says the shift; whole readings have weights of their own, and a chart has none.
+lines=0 other=0
+for text in *-in-control.txt *-shift-0.5.txt *-shift-1.txt; do
+  case $text in
+    monitor-* | *-whole-in-control.txt) continue ;;
+    *-in-control.txt) shift=0 ;;
+    *-shift-0.5.txt) shift=50 ;;
+    *) shift=100 ;;
+  esac
+  lines=$((lines + 1))
+  echo "shift,$shift" | "$bin/runs_weights" >"$got"
+  if ! head -n 1 "$text" | cmp -s - "$got"; then
+    echo "FAILED $text: its weights are not those that runs_weights prints for shift,$shift"
+    other=$((other + 1))
+  fi
+done
+if [ "$lines" -eq 0 ]; then
+  echo "FAILED: no weights line found to compare with runs_weights"
+  failed=$((failed + 1))
+elif [ "$other" -gt 0 ]; then
+  failed=$((failed + other))
+else
+  echo "same   $lines weights lines (runs_weights)"
+fi
+
 if [ "$failed" -gt 0 ]; then
   echo "${#texts[@]} examples, $failed failed"
   exit 1

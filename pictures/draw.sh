@@ -1,5 +1,5 @@
 #!/usr/bin/env bash
-# Draws outputs of runs_table. Needs gnuplot (Debian: package gnuplot-nox); nothing else here does.
+# Draws outputs of runs_table. Needs gnuplot (Debian: package gnuplot-nox).
 #
 #   pictures/draw.sh distribution OUT [options] LABEL=FILE ...
 #   pictures/draw.sh boxes        OUT [options] LABEL=FILE ...
@@ -16,20 +16,16 @@
 # Options: --log or --linear for the axis of points (else chosen by the range), --to N for its end (distribution), --title TEXT.
 # shellcheck disable=SC2016 # a dollar in single quotes is for awk or gnuplot
 set -euo pipefail
-export LC_ALL=C
+# shellcheck source=pictures/look.sh
+. "$(dirname "${BASH_SOURCE[0]}")/look.sh"
 
-say() { echo "draw.sh: $*" >&2; exit 1; }
 usage() { say "usage: draw.sh distribution|boxes OUT.svg|OUT.png [--log|--linear] [--to N] [--title TEXT] LABEL=FILE ..."; }
 
 [ $# -ge 3 ] || usage
 kind=$1 out=$2
 shift 2
 case $kind in distribution | boxes) ;; *) usage ;; esac
-case $out in
-  *.svg) format=svg ;;
-  *.png) format=png ;;
-  *) say "$out: the name must end in .svg or .png" ;;
-esac
+start_format "$out"
 
 scale=auto to=0 title=
 labels=() files=()
@@ -60,10 +56,7 @@ count=${#files[@]}
 for text in "$title" "${labels[@]}"; do
   [[ $text != *[[:cntrl:]]* ]] || say "a label or title has a control character"
 done
-command -v gnuplot >/dev/null || say "gnuplot is missing: install it (Debian: package gnuplot-nox)"
-
-work=$(mktemp -d)
-trap 'rm -rf "$work"' EXIT
+start_work
 
 # Checks one output and writes its rows (n, chance, by) and one line: H, mean, left at H, then for each percentile its kind, low and high.
 read_output() {
@@ -104,63 +97,9 @@ read_output() {
     }' "$1"
 }
 
-# 1000 as 1,000
-commas() {
-  local s=$1 t=
-  while [ "${#s}" -gt 3 ]; do
-    t=,${s: -3}$t
-    s=${s%???}
-  done
-  echo "$s$t"
-}
-
-quoted() { printf "'%s'" "${1//\'/\'\'}"; }
-
 for ((i = 0; i < count; i++)); do
   read_output "${files[i]}" "$work/rows.$i" "$work/line.$i" || exit 1
 done
-
-# Prints tics for an axis of points: its end, 1 for a logarithmic one, 1 for words at powers of ten only.
-tics() {
-  awk -v end="$1" -v log_axis="$2" -v sparse="${3:-0}" '
-    function commas(v, s, t) {
-      s = v ""
-      while (length(s) > 3) { t = "," substr(s, length(s) - 2) t; s = substr(s, 1, length(s) - 3) }
-      return s t
-    }
-    function tic(v, bare) { printf "%s\047%s\047 %d", (seen++ ? ", " : "("), (bare ? "" : commas(v)), v }
-    BEGIN {
-      if (log_axis) { for (d = 1; d <= end; d *= 10) { tic(d); if (2 * d <= end) tic(2 * d, sparse); if (5 * d <= end) tic(5 * d, sparse) } }
-      else {
-        step = 1; turn = 0
-        while (end / step > 8) { step *= (turn % 3 == 1) ? 2.5 : 2; turn++ }
-        for (v = 0; v <= end; v += step) tic(v)
-      }
-      print ")"
-    }'
-}
-
-colours=('#0072B2' '#D55E00' '#009E73' '#CC79A7' '#E69F00' '#56B4E9' '#6A3D9A' '#7F7F7F' '#8C564B' '#17A398' '#B2182B' '#4D4D4D')
-
-{
-  echo "set encoding utf8"
-  echo "set border 3 lc rgb '#555555'"
-  echo "set tics nomirror out textcolor rgb '#333333'"
-  echo "set grid lc rgb '#E4E4E4' lt 1 lw 1"
-} >"$work/head"
-
-# Sizes of the title, of small words and of the mark at the mean: the two terminals count differently.
-if [ "$format" = svg ]; then big=17 small=12 smaller=11 mark=0.75; else big=13 small=9 smaller=8 mark=1.5; fi
-
-start_terminal() { # width height
-  if [ "$format" = svg ]; then
-    echo "set terminal svg size $1,$2 fixed enhanced font 'sans-serif,13' linewidth 1 background rgb 'white'"
-  else
-    echo "set terminal pngcairo size $1,$2 enhanced font 'sans-serif,10' linewidth 1.2 background rgb 'white'"
-  fi
-  echo "set output '$work/picture.$format'"
-  cat "$work/head"
-}
 
 if [ "$kind" = distribution ]; then
   read -r end least most peak < <(
@@ -176,10 +115,8 @@ if [ "$kind" = distribution ]; then
   height=$((488 + 22 * legend_rows))
   bottom=$(awk -v r="$legend_rows" -v h="$height" 'BEGIN { printf "%.4f", (82 + 22 * r) / h }')
   names=()
-  widest=0
   for ((i = 0; i < count; i++)); do
     names+=("${labels[i]} (H = $(commas "$(cut -d' ' -f1 "$work/line.$i")"))")
-    [ "${#names[i]}" -le "$widest" ] || widest=${#names[i]}
   done
   {
     start_terminal 940 "$height"
@@ -204,18 +141,7 @@ if [ "$kind" = distribution ]; then
       done
       echo
     }
-    # the legend, below both panels, in two columns
-    for ((i = 0; i < count; i++)); do
-      awk -v i="$i" -v rows="$legend_rows" -v all="$count" -v w="$widest" -v h="$height" -v rgb="${colours[i]}" 'BEGIN {
-        column = 40 + 7.2 * w; used = (all > 1 ? 2 : 1) * column
-        if (used > 920) { column = 460; used = 920 }
-        x = (940 - used) / 2 + (i % 2) * column; y = (16 + 22 * (rows - 1 - int(i / 2))) / h
-        printf "set arrow %d from screen %.4f,%.4f to screen %.4f,%.4f nohead lw 2.2 lc rgb \047%s\047\n", i + 1, x / 940, y, (x + 26) / 940, y, rgb
-        printf "set label %d at screen %.4f,%.4f left noenhanced textcolor rgb \047#222222\047 ", i + 2, (x + 33) / 940, y
-      }'
-      quoted "${names[i]}"
-      echo
-    done
+    legend_at_foot "$height" 2 "${names[@]}"
     echo "set lmargin at screen 0.112; set rmargin at screen 0.488"
     if awk -v p="$peak" 'BEGIN { exit !(p > 0) }'; then echo "set yrange [0:$peak*1.08]"; else echo "set yrange [0:1]"; fi
     echo "set format y '%.$(awk -v p="$peak" 'BEGIN { d = 1; while (p > 0 && p < 1 && d < 12) { p *= 10; d++ } print d }')f'"
@@ -420,11 +346,4 @@ else
   heading="Run lengths: percentiles and mean"
 fi
 
-gnuplot -d "$work/script" >"$work/said" 2>&1 || { cat "$work/said" >&2; say "gnuplot failed"; }
-[ -s "$work/picture.$format" ] || { cat "$work/said" >&2; say "gnuplot drew nothing"; }
-if [ "$format" = svg ]; then
-  sed -e "s|<title>Gnuplot</title>|<title>$heading</title>|" -e '/<desc>Produced by GNUPLOT/d' \
-    -e 's|<title>gnuplot_plot_[^<]*</title>||' "$work/picture.svg" >"$work/clean.svg"
-  mv "$work/clean.svg" "$work/picture.svg"
-fi
-cp "$work/picture.$format" "$out"
+finish "$out" "$heading"

@@ -1,5 +1,6 @@
 #!/usr/bin/env bash
-# Makes the two pictures of the README from the stored outputs in examples/. Needs gnuplot (Debian: package gnuplot-nox).
+# Makes the three pictures of the README: two from the stored outputs in examples/, and one from the rules there with the built programs. Needs
+# gnuplot (Debian: package gnuplot-nox).
 set -euo pipefail
 cd "$(dirname "${BASH_SOURCE[0]}")/.."
 
@@ -15,4 +16,9 @@ pictures/draw.sh boxes pictures/boxes.svg \
   "Duncan, shifted by 1 sigma=examples/duncan-shift-1.out" \
   "Western Electric, shifted by 1 sigma=examples/western-electric-shift-1.out"
 
-ls pictures/distribution.svg pictures/boxes.svg
+pictures/characteristic.sh pictures/characteristic.svg 5 \
+  "R1 alone=examples/shewhart-in-control.txt" \
+  "Duncan=examples/duncan-in-control.txt" \
+  "Western Electric=examples/western-electric-in-control.txt"
+
+ls pictures/distribution.svg pictures/boxes.svg pictures/characteristic.svg
