@@ -27,6 +27,7 @@ static uint32_t kinds[CATROVINDY_KINDS];
 static double values[CATROVINDY_VALUES];
 static uint64_t state[1], batch_answer[CATROVINDY_BATCH_ANSWER], bytes[1];
 static uint32_t points[1], zone[1], step_answer[CATROVINDY_STEP_ANSWER], bracket_answer[CATROVINDY_BRACKET_ANSWER];
+static uint32_t shift_weights[CATROVINDY_ZONES];
 static int32_t readings[READINGS];
 static uint8_t text[CATROVINDY_MAX_TEXT + 1], out[CATROVINDY_MONITOR_SIZE];
 static size_t text_length;
@@ -39,6 +40,8 @@ static uint64_t of_step(void) {
 static uint64_t of_batch(void) {
     return catrovindy_batch(western_electric, CATROVINDY_WESTERN_ELECTRIC_COUNT, state, points, 0, 400, readings, READINGS, batch_answer);
 }
+static uint64_t of_shift_weights(void) { return catrovindy_shift_weights(-CATROVINDY_MAX_SHIFT, shift_weights); }
+static uint64_t of_refused_shift(void) { return catrovindy_shift_weights(-2147483647 - 1, shift_weights); }
 static uint64_t of_table(void) {
     return catrovindy_table(many_states, 2, weights, CATROVINDY_MAX_HORIZON, pmf, CATROVINDY_MAX_HORIZON, survival, CATROVINDY_MAX_HORIZON,
                             figures);
@@ -54,6 +57,7 @@ static uint64_t of_plot(void) {
 }
 static uint64_t of_table_report(void) { return catrovindy_table_report(text, text_length, out, bytes); }
 static uint64_t of_monitor_report(void) { return catrovindy_monitor_report(text, text_length, out, bytes); }
+static uint64_t of_weights_report(void) { return catrovindy_weights_report(text, text_length, out, bytes); }
 
 static uint64_t (*call)(void);
 static uint64_t code;
@@ -119,6 +123,8 @@ int main(void) {
     measure("one point", of_step, 0);
     for (i = 0; i < READINGS; i++) readings[i] = i % 2 == 0 ? 399 : -399;
     measure("a batch of 1,000,000 readings", of_batch, 0);
+    measure("weights of a shift", of_shift_weights, 0);
+    measure("weights refused by 18", of_refused_shift, 18);
     measure("table, 1,008 states to 65,535", of_table, 0);
     measure("bracket of 65,535 chances", of_bracket, 0);
     measure("table refused by 10", of_refused_table, 10);
@@ -131,5 +137,10 @@ int main(void) {
     measure("monitor report, 8,189 points", of_monitor_report, 0);
     text_length = CATROVINDY_MAX_TEXT + 1;
     measure("monitor report refused by 17", of_monitor_report, 17);
+    text_length = 0;
+    add("shift,-150\n");
+    measure("weights report", of_weights_report, 0);
+    while (text_length + 10 <= CATROVINDY_MAX_TEXT) add("shift,150\n");
+    measure("weights report refused by 16", of_weights_report, 16);
     return failed;
 }

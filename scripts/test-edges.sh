@@ -1,14 +1,15 @@
 #!/usr/bin/env bash
-# Tries the edges of the two built programs: inputs and outputs that are closed, cannot be read, are full, are cut short or come in pieces;
-# reads and writes that are interrupted, take a part or break off; texts of 65,536 bytes, of one more and of 100 MB; line ends and byte order marks. Then the scripts that read an output, look for commands
-# and look for the library, good cases and bad ones. Each check compares standard output, standard error and the exit status, all three exactly,
-# and prints a line with what it tried. The first difference ends the script with status 1.
+# Tries the edges of the three built programs: inputs and outputs that are closed, cannot be read, are full, are cut short or come in pieces;
+# reads and writes that are interrupted, take a part or break off; texts of 65,536 bytes, of one more and of 100 MB; line ends and byte order
+# marks; the weights of every shift as a table's. Then the scripts that read an output, look for commands and look for the library, good cases
+# and bad ones. Each check compares standard output, standard error and the exit status, all three exactly, and prints a line with what it
+# tried. The first difference ends the script with status 1.
 # shellcheck disable=SC2094 # one pipe is opened for reading and for writing
 set -euo pipefail
 cd "$(dirname "${BASH_SOURCE[0]}")/.."
 export LC_ALL=C
 
-for name in runs_table runs_monitor; do
+for name in runs_table runs_monitor runs_weights; do
   if [ ! -x "target/bin/$name" ]; then
     echo "target/bin/$name is missing: build it with 'rt check' at the root of the repository" >&2
     exit 1
@@ -84,23 +85,29 @@ bytes() {
 
 mkfifo "$work/fifo"
 cc -std=c99 -Wall -Wextra -Werror -O1 -shared -fPIC scripts/faults.c -o "$work/faults.so"
-long=$work/long-output # an output of over 65,536 bytes
+long=$work/long-output # an output of over 65,536 bytes; of the weights program, the one line that it prints
 cat >"$work/long.runs_table" <<'END'
 weights,2898884,22978326,145927014,366516130,366516130,145927014,22978326,0
 rule,1,1,1
 horizon,4096
 END
 { printf 'chart,0,1\nrule,1,1,1\n' && times 8189 point,0; } >"$work/long.runs_monitor"
-for name in runs_table runs_monitor; do
+echo shift,-150 >"$work/long.runs_weights"
+for name in runs_table runs_monitor runs_weights; do
   if ! "target/bin/$name" <"$work/long.$name" >"$long.$name"; then
     echo "FAILED $name: it did not end well on a long output"
     exit 1
   fi
 done
 
-for name in runs_table runs_monitor; do
+for name in runs_table runs_monitor runs_weights; do
   program=target/bin/$name
-  if [ $name = runs_table ]; then text=examples/western-electric-short; else text=examples/monitor-shift; fi
+  case $name in
+    runs_table) text=examples/western-electric-short ;;
+    runs_monitor) text=examples/monitor-shift ;;
+    runs_weights) text=examples/shift-0.5 ;;
+  esac
+  half=$(($(wc -c <"$text.txt") / 2))
 
   # What is read.
   run "$program" <&-
@@ -116,7 +123,7 @@ for name in runs_table runs_monitor; do
   check "$name: no text at all" 0 'refused,16,1' ''
   run "$program" < <(drip "crates/$name/stdin")
   check "$name: a text that comes one byte at a time" 0 "@crates/$name/stdout" ''
-  run "$program" < <(head -c 20 "$text.txt" && sleep 0.2 && tail -c +21 "$text.txt")
+  run "$program" < <(head -c "$half" "$text.txt" && sleep 0.2 && tail -c "+$((half + 1))" "$text.txt")
   check "$name: a text that comes in two pieces" 0 "@$text.out" ''
   run "$program" < <(sed 's/$/\r/' "$text.txt")
   check "$name: lines that end in CR LF" 0 'refused,16,1' ''
@@ -145,9 +152,11 @@ for name in runs_table runs_monitor; do
   check "$name: closed output" 0 '' 'standard output: Bad file descriptor'
   exec 3<>"$work/fifo" 4>"$work/fifo" 5<"$work/fifo" 3>&-
   dd oflag=nonblock count=0 status=none >&4 </dev/null
+  # The one line of the weights program fills no pipe: zeros do, which are taken out again.
+  if [ $name = runs_weights ]; then dd bs=4096 count=4096 status=none >&4 </dev/zero 2>"$work/err" || true; fi
   run_to_4 "$program" <"$work/long.$name"
   exec 4>&-
-  cat <&5 >"$work/out"
+  if [ $name = runs_weights ]; then tr -d '\0' <&5 >"$work/out"; else cat <&5 >"$work/out"; fi
   exec 5<&-
   head -c "$(wc -c <"$work/out")" "$long.$name" >"$work/cut"
   check "$name: a pipe as output that is full and does not wait" 0 "@$work/cut" 'standard output: Resource temporarily unavailable'
@@ -240,12 +249,48 @@ sed '$s/4/48/' "$work/table" >"$work/table-17"
 bytes "$work/table-17" 65537
 run target/bin/runs_table <"$work/table-17"
 check "runs_table: a text of 65,537 bytes" 0 'refused,17,0' ''
-for name in runs_table runs_monitor; do
+
+# For the weights: a text of this length has a line too many, or one line with a number far too long.
+times 8192 shift,0 >"$work/weights"
+bytes "$work/weights" 65536
+run target/bin/runs_weights <"$work/weights"
+check "runs_weights: a text of 65,536 bytes with 8,192 lines" 0 'refused,16,2' ''
+sed '$s/0/10/' "$work/weights" >"$work/weights-17"
+bytes "$work/weights-17" 65537
+run target/bin/runs_weights <"$work/weights-17"
+check "runs_weights: a text of 65,537 bytes" 0 'refused,17,0' ''
+{ printf shift, && head -c 65529 /dev/zero | tr '\0' 1 && echo; } >"$work/digits"
+bytes "$work/digits" 65536
+run target/bin/runs_weights <"$work/digits"
+check "runs_weights: a text of 65,536 bytes with one number" 0 'refused,16,1' ''
+sed 's/1$/11/' "$work/digits" >"$work/digits-17"
+bytes "$work/digits-17" 65537
+run target/bin/runs_weights <"$work/digits-17"
+check "runs_weights: a text of 65,537 bytes with one number" 0 'refused,17,0' ''
+for name in runs_table runs_monitor runs_weights; do
   run "target/bin/$name" < <(head -c 65536 /dev/zero)
   check "$name: 65,536 bytes of zeros" 0 'refused,16,1' ''
   run "target/bin/$name" < <(head -c 65537 /dev/zero)
   check "$name: 65,537 bytes of zeros" 0 'refused,17,0' ''
 done
+
+# From a shift to a table, for every shift: the printed line is the table text's first. With one rule on S and the horizon 1 the chance at 1 is
+# S's weight, and what is left is the sum of all others.
+shifted_tables() {
+  local s
+  for ((s = -150; s <= 150; s++)); do
+    { echo "shift,$s" | target/bin/runs_weights && printf 'rule,1,1,1\nhorizon,1\n'; } | tee -a "$work/shifted" | target/bin/runs_table | sed -n 3p
+  done
+}
+run shifted_tables
+grep '^weights,' "$work/shifted" | while IFS=, read -r _ w0 w1 w2 w3 w4 w5 w6 w7; do
+  echo "1,$((w0 << 30)),$((w0 << 30)),$(((w1 + w2 + w3 + w4 + w5 + w6 + w7) << 30))"
+done >"$work/shifted.out"
+check "runs_weights and runs_table: the weights of $(wc -l <"$work/shifted.out") shifts" 0 "@$work/shifted.out" ''
+if [ "$(sort -u "$work/shifted.out" | wc -l)" != 151 ]; then
+  echo "FAILED: the 301 shifts have not 151 different weights of S, one for each distance from the centre"
+  exit 1
+fi
 
 # scripts/bounds.sh
 table=examples/western-electric-in-control.out
@@ -285,6 +330,8 @@ run bash scripts/bounds.sh "$part" 400
 check "bounds: an output without its row 5" 1 '' "bounds.sh: $part: no whole output of runs_table: line 7 is not the one expected"
 run bash scripts/bounds.sh examples/monitor-shift.out 1
 check "bounds: a monitor's output" 1 '' "bounds.sh: examples/monitor-shift.out: no whole output of runs_table: line 1 is not the one expected"
+run bash scripts/bounds.sh crates/runs_weights/stdout 1
+check "bounds: a line of weights" 1 '' "bounds.sh: crates/runs_weights/stdout: no whole output of runs_table: line 1 is not the one expected"
 printf 'standings,1\nn,chance,by,left\n1,1152921504606846976,1152921504606846976,0\narl,1,0,0\n' >"$part"
 printf 'q,%s,at,1\n' 5 25 50 75 95 >>"$part"
 run bash scripts/bounds.sh "$part" 1
