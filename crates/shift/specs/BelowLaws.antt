@@ -143,21 +143,25 @@ lifted i h =
     (is-neg (pos a) a 0 (omega arith))))
     (λ l. rw (le-ltb i lastArea l) (omega (arith, below-high i l)))
 
--- a limit less the shift: the limit is x - 300, the shift t - 150
-limit-less : (t x : ℕ) → t ≤ 2 * maxShift → subℕ x 300 -ℤ subℕ t maxShift ≡ subℕ (x + 300 - t) lastArea
+-- added to the limit's place x less the shift's place t, it is the place in the table below: 300
+abbrev pub onward : ℕ
+onward = lastArea + maxShift - 300
+
+-- a limit less the shift: the limit is x - 300, the shift t - maxShift; no place is below 0 only while the table reaches the furthest
+limit-less : (t x : ℕ) → t ≤ 2 * maxShift → subℕ x 300 -ℤ subℕ t maxShift ≡ subℕ (x + onward - t) lastArea
 limit-less t x h =
-    is-same (subℕ x 300 -ℤ subℕ t maxShift) (subℕ (x + 300 - t) lastArea) (x + 300 - t) lastArea
-    (is-as (subℕ x 300 -ℤ subℕ t maxShift) (x + maxShift) (300 + t) (x + 300 - t) lastArea (omega arith)
+    is-same (subℕ x 300 -ℤ subℕ t maxShift) (subℕ (x + onward - t) lastArea) (x + onward - t) lastArea
+    (is-as (subℕ x 300 -ℤ subℕ t maxShift) (x + maxShift) (300 + t) (x + onward - t) lastArea (omega arith)
     (is-minus (subℕ x 300) (subℕ t maxShift) x 300 t maxShift (is-sub x 300) (is-sub t maxShift)))
-    (is-sub (x + 300 - t) lastArea)
+    (is-sub (x + onward - t) lastArea)
 
 -- so the area between two limits, over the integers, is a difference of numbers
 pub between-below : (t low high : ℕ) → t ≤ 2 * maxShift → low ≤ high → high ≤ 600
-    → areaBetween (subℕ t maxShift) (subℕ low 300) (subℕ high 300) ≡ pos (belowOf (high + 300 - t) - belowOf (low + 300 - t))
+    → areaBetween (subℕ t maxShift) (subℕ low 300) (subℕ high 300) ≡ pos (belowOf (high + onward - t) - belowOf (low + onward - t))
 unfolding areaBetween
 between-below t low high ht l k =
-    let i = high + 300 - t in
-    let j = low + 300 - t in
+    let i = high + onward - t in
+    let j = low + onward - t in
     let m = below-rises j i (omega arith) (omega arith) in
     rw (limit-less t high ht, limit-less t low ht)
     (is-same (normalArea (subℕ i lastArea) -ℤ normalArea (subℕ j lastArea)) (pos (belowOf i - belowOf j)) (belowOf i + 2 ^ 29) (2 ^ 29 + belowOf j)

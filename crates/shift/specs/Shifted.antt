@@ -33,7 +33,7 @@ pub record Whole (w : ZoneWeights) : Type 0 where
   pub six-within : w .a1 + w .b1 + w .c1 + w .c2 + w .b2 + w .a2 ≤ weightTotal
   pub s-missing : w .s + (w .a1 + w .b1 + w .c1 + w .c2 + w .b2 + w .a2) ≡ weightTotal
 
--- the largest shift with which B1 is further from the mean than C1: both begin or end at 100 hundredths
+-- the largest shift with which B1 is no nearer to the mean than C1: they meet at 100 hundredths
 abbrev pub nearShift : ℕ
 nearShift = 100
 

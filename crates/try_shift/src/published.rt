@@ -25,35 +25,54 @@ fn distance(a: u64, b: u64) -> u64 {
     if a < b { b - a } else { a - b }
 }
 
-// Whether an entry is the nearest to what is printed: off by at most half a unit of ours and one of the printed one's last place.
-fn met(entry: u32, z: usize) -> bool
+// How far an entry is off what is printed, FIVE_12 to a unit of ours.
+fn off(z: usize) -> u64
     requires { ⌜ z < 451 ⌝ }
 {
-    let ours = entry as u64 % 1073741824 * FIVE_12;
+    let ours = shift::area_at(z) as u64 % 1073741824 * FIVE_12;
     let theirs = printed(z) * TWO_18;
-    distance(ours, theirs) <= FIVE_12 / 2 + TWO_18
+    distance(ours, theirs)
 }
 
-// Its line, and 1 where it is met, else 0.
-fn area(z: usize) -> u64
+fn show_area(z: usize)
+    requires { ⌜ z < 451 ⌝ }
+{
+    show::number(b"area,", z as u64);
+    show::number(b",", shift::area_at(z) as u64);
+    show::text(b"\n");
+}
+
+// 1 where an entry is off by at most so much, else 0.
+fn near(z: usize, most: u64) -> u64
     requires { ⌜ z < 451 ⌝ }
     ensures { λ r. ⌜ r < 2 ⌝ }
 {
-    let entry = shift::area_at(z);
-    show::number(b"area,", z as u64);
-    show::number(b",", entry as u64);
-    show::text(b"\n");
-    if met(entry, z) { 1 } else { 0 }
+    if off(z) <= most { 1 } else { 0 }
 }
 
-// Each entry, and then how many of them are met.
-pub fn areas() {
+// How many they are.
+fn within(most: u64) -> u64 {
     let mut z = 0;
     let mut count: u64 = 0;
     while z <= LAST {
-        count = (count + area(z)) % 1000;
+        count = (count + near(z, most)) % 1000;
         z += 1;
     }
-    show::number(b"of the printed table's 451 areas are met: ", count);
+    count
+}
+
+// Each entry, and then how many are met: the nearest to an area that rounds to what is printed, so at most half a unit of ours and half of the
+// printed last place off. What is printed, rounded once more to our unit, is the entry where it is at most half a unit off.
+pub fn areas() {
+    let mut z = 0;
+    while z <= LAST {
+        show_area(z);
+        z += 1;
+    }
+    show::number(
+        b"of the printed table's 451 areas are met: ",
+        within((FIVE_12 + TWO_18) / 2),
+    );
+    show::number(b", and rounded to our unit are ours: ", within(FIVE_12 / 2));
     show::text(b"\n");
 }
