@@ -1,7 +1,7 @@
 /*
  * The edges of the calls from C and C++: lists of length 0 that are null, a batch of no readings, a full count, a plot record that is
- * refused, the last zone, the largest shifts. Every exported function with a list is reached by way of __wrap_..., see build.sh, which
- * looks whether a null pointer gets there. Prints what is wrong, and nothing where nothing is.
+ * refused, the last zone, the largest shifts, a text without points, a node beyond the last. Every exported function with a list is reached
+ * by way of __wrap_..., see build.sh, which looks whether a null pointer gets there. Prints what is wrong, and nothing where nothing is.
  */
 #include "catrovindy.h"
 
@@ -205,6 +205,33 @@ static void weights_reports(void) {
     require(memcmp(weights_line + length, kept, sizeof kept - length) == 0, "the bytes after the line are kept");
 }
 
+static uint64_t monitor_report_of(const char *text, uint64_t *bytes) {
+    return catrovindy_monitor_report((const uint8_t *)text, strlen(text), monitor_lines, bytes);
+}
+
+/* Whether the buffer of the monitor report has something else than 0x5A from a place on. */
+static int written_from(size_t place) {
+    while (place < sizeof monitor_lines && monitor_lines[place] == 0x5A) place++;
+    return place < sizeof monitor_lines;
+}
+
+/* The monitor report: each node by itself, no lines for no points, and a node beyond the last refused at its line. */
+static void monitor_reports(void) {
+    static const char lines[] = "signal,15,1,1\nquiet,0,1\ntotal,0,1,0\ntotal,15,1,1\n";
+    const size_t length = strlen(lines);
+    uint64_t bytes = 77;
+    memset(monitor_lines, 0x5A, sizeof monitor_lines);
+    require(refused(monitor_report_of("chart,0,1\nrule,1,1,1\npoint,15,0\npoint,16,0\n", &bytes), CATROVINDY_BAD_NODE, 4), "19 for node 16");
+    require(refused(monitor_report_of("chart,0,0\npoint,4294967295,0\n", &bytes), CATROVINDY_BAD_NODE, 2), "19 comes before the rules");
+    require(refused(monitor_report_of("chart,0,1\nrule,1,1,1\npoint,16,0\npoint,0\n", &bytes), CATROVINDY_BAD_LINE, 4), "16 comes before 19");
+    require(bytes == 77 && !written_from(0), "a refused monitor report leaves the buffer");
+    require(monitor_report_of("chart,0,1\nrule,1,1,1\n", &bytes) == CATROVINDY_ACCEPTED, "a text without points is accepted");
+    require(bytes == 0 && !written_from(0), "and has no lines");
+    require(monitor_report_of("chart,0,1\nrule,1,1,1\npoint,15,9\npoint,0,0\n", &bytes) == CATROVINDY_ACCEPTED, "two nodes are accepted");
+    require(bytes == length && memcmp(monitor_lines, lines, length) == 0, "the lines of two nodes");
+    require(!written_from(length), "the bytes after the lines are kept");
+}
+
 int main(void) {
     require(catrovindy_version() == CATROVINDY_VERSION_NUMBER, "the library belongs to the header");
     null_lists();
@@ -214,5 +241,6 @@ int main(void) {
     last_zone();
     shifts();
     weights_reports();
+    monitor_reports();
     return failed;
 }

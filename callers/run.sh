@@ -1,19 +1,20 @@
 #!/usr/bin/env bash
-# Builds the models of a caller, runs them, and compares what each prints with soak.out. Then tries the edges of the calls, and whether
-# compilers tell of wrong ones. Fails at any difference.
+# Builds the models of a caller, runs them, and compares what each prints with soak.out or bench.out. Then tries the edges of the calls, and
+# whether compilers tell of wrong ones. Fails at any difference.
 set -euo pipefail
 cd "$(dirname "${BASH_SOURCE[0]}")"
 bash build.sh
 
 failed=0
-for program in soak_c soak_cpp soak_rust; do
+for program in soak_c soak_cpp soak_rust bench_c bench_cpp bench_rust; do
   got=../target/callers/$program.out
+  expected=${program%%_*}.out
   if ! "../target/callers/$program" >"$got"; then
     echo "FAILED $program: it did not end well"
     failed=1
-  elif ! cmp -s "$got" soak.out; then
-    echo "FAILED $program: it prints something else than soak.out"
-    diff "$got" soak.out | head -n 6 || true
+  elif ! cmp -s "$got" "$expected"; then
+    echo "FAILED $program: it prints something else than $expected"
+    diff "$got" "$expected" | head -n 6 || true
     failed=1
   else
     echo "same   $program"

@@ -31,7 +31,7 @@ static const int32_t readings[READINGS] = {50129, 49755, 50437, 49835, 49557, 50
                                            50516, 51024, 50704, 50187, 50515, 50073, 50419, 50105, 50028, 50229, 50866, 49909, 50543, 50515};
 
 static const char table_text[] = "weights,0,536870912,0,0,536870912,0,0,0\nrule,2,2,2\nhorizon,4\n";
-static const char monitor_text[] = "chart,100,10\nrule,1,1,1\nrule,2,3,2\npoint,121\npoint,100\npoint,121\npoint,131\n";
+static const char monitor_text[] = "chart,100,10\nrule,1,1,1\nrule,2,3,2\npoint,3,121\npoint,15,131\npoint,3,100\npoint,3,121\n";
 static const char weights_text[] = "shift,100\n";
 
 /* The lists of the table, and the buffers of the reports: too large for some stacks. */

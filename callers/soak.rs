@@ -22,7 +22,7 @@ const READINGS: [i32; 28] = [
 ];
 
 const TABLE_TEXT: &[u8] = b"weights,0,536870912,0,0,536870912,0,0,0\nrule,2,2,2\nhorizon,4\n";
-const MONITOR_TEXT: &[u8] = b"chart,100,10\nrule,1,1,1\nrule,2,3,2\npoint,121\npoint,100\npoint,121\npoint,131\n";
+const MONITOR_TEXT: &[u8] = b"chart,100,10\nrule,1,1,1\nrule,2,3,2\npoint,3,121\npoint,15,131\npoint,3,100\npoint,3,121\n";
 const WEIGHTS_TEXT: &[u8] = b"shift,100\n";
 
 /// Before all else: does the library belong to the crate, and are the rules accepted?

@@ -1,6 +1,7 @@
 #!/usr/bin/env bash
 # Runs every example through the built program that its first word asks for, and compares what it prints with the file beside it. Then looks
-# whether the weights of the normal cores at 0, 0.5 and 1 sigma are those that runs_weights prints.
+# whether the weights of the normal cores at 0, 0.5 and 1 sigma are those that runs_weights prints, and whether each node of a bench prints the
+# same among the others and alone.
 set -euo pipefail
 cd "$(dirname "${BASH_SOURCE[0]}")"
 bin=../target/bin
@@ -81,6 +82,21 @@ elif [ "$other" -gt 0 ]; then
   failed=$((failed + other))
 else
   echo "same   $lines weights lines (runs_weights)"
+fi
+
+# The opening lines with the points of one node, and the lines that name it; a node without points has none.
+other=0
+for node in $(seq 0 15); do
+  grep -E "^(chart|rule|point,$node)," monitor-bench.txt | "$bin/runs_monitor" >"$got"
+  if ! sed -n "/^[a-z]*,$node,/p" monitor-bench.out | cmp -s - "$got"; then
+    echo "FAILED monitor-bench.txt: node $node prints something else alone"
+    other=$((other + 1))
+  fi
+done
+if [ "$other" -gt 0 ]; then
+  failed=$((failed + other))
+else
+  echo "same   16 nodes alone (runs_monitor)"
 fi
 
 if [ "$failed" -gt 0 ]; then

@@ -10,9 +10,9 @@
  *
  * Codes. What a function returns is a code: 0 where the call is accepted, else a refusal with its number in the low 32 bits and its place
  * above them; only catrovindy_version and the helpers return something else. catrovindy_number and catrovindy_place take a code apart, and
- * catrovindy_meaning says it in words. The place is the rule's index from 0 for 3 and 4, the line from 1 for 16, else 0. The refusals of each
- * function are listed in the order in which they are looked for; the first that applies is the code. There are no others. A refused call
- * alters nothing that was lent. A compiler warns where a code is ignored.
+ * catrovindy_meaning says it in words. The place is the rule's index from 0 for 3 and 4, the line from 1 for 16 and 19, else 0. The refusals
+ * of each function are listed in the order in which they are looked for; the first that applies is the code. There are no others. A refused
+ * call alters nothing that was lent. A compiler warns where a code is ignored.
  *
  * Arrays and lists. An array has the number of places that its declaration gives; a compiler tells where it sees a shorter one handed over.
  * A list comes with its length. What is marked `written only` need not hold values; all else does.
@@ -53,8 +53,8 @@ extern "C" {
 /* ---- The version */
 
 /* The version of this header, as text and as major * 10000 + minor * 100 + patch. The Rust crate has the same. */
-#define CATROVINDY_VERSION "0.5.0"
-#define CATROVINDY_VERSION_NUMBER 500
+#define CATROVINDY_VERSION "0.6.0"
+#define CATROVINDY_VERSION_NUMBER 600
 
 /* The version of the library, as a number: CATROVINDY_VERSION_NUMBER where the library belongs to this header. It is no code. */
 uint32_t catrovindy_version(void);
@@ -76,9 +76,10 @@ uint32_t catrovindy_version(void);
 
 #define CATROVINDY_MAX_TEXT 65536      /* the most bytes of a report's text */
 #define CATROVINDY_MAX_ROWS 4096       /* the largest horizon of a table report */
+#define CATROVINDY_NODES 16            /* the nodes of a monitor report, numbered from 0 */
 #define CATROVINDY_TABLE_SIZE 344544   /* the buffer of a table report */
-#define CATROVINDY_MONITOR_SIZE 401456 /* the buffer of a monitor report */
-#define CATROVINDY_WEIGHTS_SIZE 176    /* the buffer of a weights report */
+#define CATROVINDY_MONITOR_SIZE 262744 /* the buffer of a monitor report */
+#define CATROVINDY_WEIGHTS_SIZE 96     /* the buffer of a weights report */
 
 /* The places of each array that is written. */
 #define CATROVINDY_STEP_ANSWER 2
@@ -141,15 +142,16 @@ enum {
     CATROVINDY_BAD_CHANCES = 15,     /* the chances sum to more than 2^60 */
     CATROVINDY_BAD_LINE = 16,        /* a line is not the one expected, or cannot be read */
     CATROVINDY_LONG_TEXT = 17,       /* the text has more than 65,536 bytes */
-    CATROVINDY_BAD_SHIFT = 18        /* the shift is outside -150 to 150 hundredths of sigma */
+    CATROVINDY_BAD_SHIFT = 18,       /* the shift is outside -150 to 150 hundredths of sigma */
+    CATROVINDY_BAD_NODE = 19         /* a point's node is over 15 */
 };
 
-/* The number of a code: 0 for an accepted call, else the refusal's, 1 to 18. */
+/* The number of a code: 0 for an accepted call, else the refusal's, 1 to 19. */
 static inline uint32_t catrovindy_number(uint64_t code) {
     return (uint32_t)(code & 0xFFFFFFFFu);
 }
 
-/* The place of a code: the rule's index from 0 for 3 and 4, the line from 1 for 16, else 0. */
+/* The place of a code: the rule's index from 0 for 3 and 4, the line from 1 for 16 and 19, else 0. */
 static inline uint32_t catrovindy_place(uint64_t code) {
     return (uint32_t)(code >> 32);
 }
@@ -176,6 +178,7 @@ static inline const char *catrovindy_meaning(uint64_t code) {
     case CATROVINDY_BAD_LINE: return "A line of the text is missing, is not the one expected, or cannot be read.";
     case CATROVINDY_LONG_TEXT: return "The text has more than 65,536 bytes.";
     case CATROVINDY_BAD_SHIFT: return "The shift is outside -150 to 150 hundredths of sigma.";
+    case CATROVINDY_BAD_NODE: return "A point's node is over 15: there is no such node.";
     default: return "There is no such refusal.";
     }
 }
@@ -215,7 +218,7 @@ CATROVINDY_CODE uint64_t catrovindy_zone(int32_t reading, int32_t centre, uint32
 
 /*
  * One point. The monitor is kept by the caller as two numbers, the state and the count of points since the last signal. Both are 0 at the
- * start; afterwards the caller hands back what was written, with the same rules.
+ * start; afterwards the caller hands back what was written, with the same rules. A bench with several cores keeps a monitor for each of them.
  *   slots, count: the rules.
  *   state: 1 place, the state. Then holds the state for the next point: 0 after a signal.
  *   points: 1 place, the count of points. Then holds the count for the next point: 0 after a signal.
@@ -386,11 +389,17 @@ CATROVINDY_CODE uint64_t catrovindy_table_report(const uint8_t *text, size_t len
                                                  uint64_t bytes[CATROVINDY_AT_LEAST 1]);
 
 /*
- * The monitor program's lines for a text of a chart line, rule lines and point lines.
+ * The monitor program's lines for a text of a chart line, rule lines and point lines `point,node,reading`. Each node, 0 to 15, has a monitor
+ * of its own; the chart and the rules are common. A point is written, in the text's order, as one of the first two lines, and behind the last
+ * point each node that has points, in order of node, as the third:
+ *   quiet,node,count: no rule holds; the count is that of the node's points since its last signal.
+ *   signal,node,count,mask: the mask is the sum of 2^index over the rules that hold.
+ *   total,node,points,signals: the number of the node's points, and how many of them signalled.
+ * So a text without points has no lines. With the same chart and rules the lines of a node depend on its own points alone.
  *   text: `length` bytes.
  *   out: CATROVINDY_MONITOR_SIZE bytes, written only. Then begins with the lines; the bytes after them are kept.
  *   bytes: 1 place, written only. Then holds the number of bytes of the lines.
- * Refused by 17; 16; 2; then rule by rule 3, 4; 1.
+ * Refused by 17; 16; 19; 2; then rule by rule 3, 4; 1.
  */
 CATROVINDY_CODE uint64_t catrovindy_monitor_report(const uint8_t *text, size_t length,
                                                    uint8_t out[CATROVINDY_AT_LEAST CATROVINDY_MONITOR_SIZE],

@@ -29,7 +29,7 @@ static uint64_t state[1], batch_answer[CATROVINDY_BATCH_ANSWER], bytes[1];
 static uint32_t points[1], zone[1], step_answer[CATROVINDY_STEP_ANSWER], bracket_answer[CATROVINDY_BRACKET_ANSWER];
 static uint32_t shift_weights[CATROVINDY_ZONES];
 static int32_t readings[READINGS];
-static uint8_t text[CATROVINDY_MAX_TEXT + 1], out[CATROVINDY_MONITOR_SIZE];
+static uint8_t text[CATROVINDY_MAX_TEXT + 1], out[CATROVINDY_TABLE_SIZE]; /* the largest buffer of a report */
 static size_t text_length;
 
 static uint64_t of_check(void) { return catrovindy_check(western_electric, CATROVINDY_WESTERN_ELECTRIC_COUNT); }
@@ -133,8 +133,15 @@ int main(void) {
     measure("table report, 1,008 states to 4,096", of_table_report, 0);
     text_length = 0;
     add("chart,0,1\nrule,1,1,1\n");
-    while (text_length + 8 <= CATROVINDY_MAX_TEXT) add("point,9\n");
-    measure("monitor report, 8,189 points", of_monitor_report, 0);
+    for (i = 0; text_length + 11 <= CATROVINDY_MAX_TEXT; i++) {
+        char line[24];
+        sprintf(line, "point,%d,9\n", i % CATROVINDY_NODES);
+        add(line);
+    }
+    measure("monitor report, 6,315 points on 16 nodes", of_monitor_report, 0);
+    text_length -= 11;
+    add("point,16,9\n");
+    measure("monitor report refused by 19", of_monitor_report, 19);
     text_length = CATROVINDY_MAX_TEXT + 1;
     measure("monitor report refused by 17", of_monitor_report, 17);
     text_length = 0;

@@ -1,9 +1,9 @@
 #!/usr/bin/env bash
 # Tries the edges of the three built programs: inputs and outputs that are closed, cannot be read, are full, are cut short or come in pieces;
 # reads and writes that are interrupted, take a part or break off; texts of 65,536 bytes, of one more and of 100 MB; line ends and byte order
-# marks; the weights of every shift as a table's. Then the scripts that read an output, look for commands and look for the library, good cases
-# and bad ones. Each check compares standard output, standard error and the exit status, all three exactly, and prints a line with what it
-# tried. The first difference ends the script with status 1.
+# marks; a text without points; the most points and the longest output; the weights of every shift as a table's. Then the scripts that read an
+# output, look for commands and look for the library, good cases and bad ones. Each check compares standard output, standard error and the exit
+# status, all three exactly, and prints a line with what it tried. The first difference ends the script with status 1.
 # shellcheck disable=SC2094 # one pipe is opened for reading and for writing
 set -euo pipefail
 cd "$(dirname "${BASH_SOURCE[0]}")/.."
@@ -91,7 +91,7 @@ weights,2898884,22978326,145927014,366516130,366516130,145927014,22978326,0
 rule,1,1,1
 horizon,4096
 END
-{ printf 'chart,0,1\nrule,1,1,1\n' && times 8189 point,0; } >"$work/long.runs_monitor"
+{ printf 'chart,0,1\nrule,1,1,1\n' && times 6551 point,0,0; } >"$work/long.runs_monitor"
 echo shift,-150 >"$work/long.runs_weights"
 for name in runs_table runs_monitor runs_weights; do
   if ! "target/bin/$name" <"$work/long.$name" >"$long.$name"; then
@@ -189,14 +189,34 @@ for name in runs_table runs_monitor runs_weights; do
   check "$name: an output that breaks off" 0 "@$work/cut" 'standard output: Input/output error'
 
   # Too much to read: the program stops at 65,537 bytes.
-  run timeout 300 "$program" < <(yes point,50000 2>/dev/null | head -c 100000000 2>/dev/null)
+  run timeout 300 "$program" < <(yes point,0,50000 2>/dev/null | head -c 100000000 2>/dev/null)
   check "$name: 100 MB of text" 0 'refused,17,0' ''
-  run timeout 300 "$program" < <(yes point,50000 2>/dev/null)
+  run timeout 300 "$program" < <(yes point,0,50000 2>/dev/null)
   check "$name: a text without end" 0 'refused,17,0' ''
 done
 
-# The longest texts. For the monitor: Western Electric and readings of five digits, the last two of six. A reading of 50,001 lies in
-# C1, so each eighth signals by rule 6, eight in a row above the centre; 150,000 lies in S and signals by rule 0.
+# A text without points has no output. Only standard error tells it from a text that could not be read; nothing is written, so that an output
+# which takes nothing is no error.
+none=examples/monitor-no-points.txt
+run target/bin/runs_monitor <"$none"
+check "runs_monitor: a text without points" 0 '' ''
+run target/bin/runs_monitor < <(head -c -1 "$none")
+check "runs_monitor: a text without points and without its last LF" 0 "refused,16,$(wc -l <"$none")" ''
+FAULT=read-interrupted LD_PRELOAD=$work/faults.so run target/bin/runs_monitor <"$none"
+check "runs_monitor: a text without points, interrupted reads" 0 '' ''
+FAULT=read-breaks-off LD_PRELOAD=$work/faults.so run target/bin/runs_monitor <"$none"
+check "runs_monitor: a text without points whose input breaks off" 0 '' 'standard input: Input/output error'
+exec 4>/dev/full
+run_to_4 target/bin/runs_monitor <"$none"
+exec 4>&-
+check "runs_monitor: a text without points, a full device as output" 0 '' ''
+exec 3<>"$work/fifo" 4>"$work/fifo" 3>&-
+run_to_4 env --default-signal=PIPE target/bin/runs_monitor <"$none"
+exec 4>&-
+check "runs_monitor: a text without points, a closed pipe as output" 0 '' ''
+
+# The longest texts. For the monitor: Western Electric, sixteen nodes in turn and readings of five digits, the last six of six. A reading of
+# 50,001 lies in C1, so each eighth of a node signals by rule 6, eight in a row above the centre; 150,000 lies in S and signals by rule 0.
 western_electric='rule,1,1,1
 rule,2,3,64
 rule,2,3,2
@@ -206,34 +226,58 @@ rule,8,8,112
 rule,8,8,14'
 {
   printf 'chart,50000,400\n%s\n' "$western_electric"
-  times 5451 point,50001
-  printf 'point,150000\npoint,150000\n'
+  times 284 point,{0..15},50001
+  times 1 point,{0,1},50001 point,{2..7},150000
 } >"$work/monitor"
 bytes "$work/monitor" 65536
-# 5,451 = 681 times 8 and 3 more; then 150,000 at the fourth and at the first.
-times 681 quiet,1 quiet,2 quiet,3 quiet,4 quiet,5 quiet,6 quiet,7 signal,8,64 >"$work/monitor.out"
-times 1 quiet,1 quiet,2 quiet,3 signal,4,1 signal,1,1 total,5453,683 >>"$work/monitor.out"
+# 284 = 35 times 8 and 4 more; then nodes 0 to 7 have a fifth.
+{
+  times 35 quiet,{0..15},1 quiet,{0..15},2 quiet,{0..15},3 quiet,{0..15},4 quiet,{0..15},5 quiet,{0..15},6 quiet,{0..15},7 signal,{0..15},8,64
+  times 1 quiet,{0..15},1 quiet,{0..15},2 quiet,{0..15},3 quiet,{0..15},4 quiet,{0,1},5 signal,{2..7},5,1
+  times 1 total,{0,1},285,35 total,{2..7},285,36 total,{8..15},284,35
+} >"$work/monitor.out"
 run target/bin/runs_monitor <"$work/monitor"
-check "runs_monitor: a text of 65,536 bytes, 5,453 points" 0 "@$work/monitor.out" ''
-if [ "$(wc -l <"$work/out")" != 5454 ] || [ "$(tail -n 1 "$work/out")" != total,5453,683 ]; then
-  echo "FAILED: another number of lines than 5,454, or another last line than total,5453,683"
+check "runs_monitor: a text of 65,536 bytes, 4,552 points on sixteen nodes" 0 "@$work/monitor.out" ''
+if [ "$(wc -l <"$work/out")" != $((4552 + 16)) ]; then
+  echo "FAILED: another number of lines than one for each point and each node"
   exit 1
 fi
 sed '$s/150000/1500000/' "$work/monitor" >"$work/monitor-17"
 bytes "$work/monitor-17" 65537
 run target/bin/runs_monitor <"$work/monitor-17"
 check "runs_monitor: a text of 65,537 bytes" 0 'refused,17,0' ''
+sed '$s/7,150000/16,50000/' "$work/monitor" >"$work/monitor-19"
+bytes "$work/monitor-19" 65536
+run target/bin/runs_monitor <"$work/monitor-19"
+check "runs_monitor: a text of 65,536 bytes with node 16 in its last line" 0 "refused,19,$((8 + 4552))" ''
 
-# The most points that a text can have: 8,189, with readings of one digit and one short rule.
-bytes "$work/long.runs_monitor" $((10 + 11 + 8 * 8189))
-if [ "$(tail -n 1 "$long.runs_monitor")" != total,8189,0 ]; then
-  echo "FAILED: 8,189 points end in $(tail -n 1 "$long.runs_monitor"), not in total,8189,0"
+# The most points that a text can have: 6,551, with nodes and readings of one digit and one short rule.
+bytes "$work/long.runs_monitor" $((10 + 11 + 10 * 6551))
+if [ "$(tail -n 1 "$long.runs_monitor")" != total,0,6551,0 ]; then
+  echo "FAILED: 6,551 points end in $(tail -n 1 "$long.runs_monitor"), not in total,0,6551,0"
   exit 1
 fi
-sed 's/point,0/point,9/' "$work/long.runs_monitor" >"$work/nines"
+run target/bin/runs_monitor < <(cat "$work/long.runs_monitor" && echo point,0,0)
+check "runs_monitor: 6,552 points" 0 'refused,17,0' ''
+sed 's/point,0,0/point,0,9/' "$work/long.runs_monitor" >"$work/nines"
 run target/bin/runs_monitor <"$work/nines"
-{ times 8189 signal,1,1 && echo total,8189,8189; } >"$work/nines.out"
-check "runs_monitor: 8,189 points, each with a signal" 0 "@$work/nines.out" ''
+{ times 6551 signal,0,1,1 && echo total,0,6551,6551; } >"$work/nines.out"
+check "runs_monitor: 6,551 points, each with a signal" 0 "@$work/nines.out" ''
+
+# The longest output: a signal by seven rules at each point, points on every node, and on six of them over 999.
+{
+  times 1 chart,0,1 && times 7 rule,1,1,1
+  times 1000 point,{0..5},9 && times 100 point,{6..9},9 && times 135 point,0,9
+  times 1 point,{10..15},9 point,{10..12},9
+} >"$work/longest"
+bytes "$work/longest" 65536
+{
+  sed -n -E 's/^point,([0-9]+),9$/signal,\1,1,127/p' "$work/longest"
+  times 1 total,0,1135,1135 total,{1..5},1000,1000 total,{6..9},100,100 total,{10..12},2,2 total,{13..15},1,1
+} >"$work/longest.out"
+bytes "$work/longest.out" 98419
+run target/bin/runs_monitor <"$work/longest"
+check "runs_monitor: the longest output, 98,419 bytes" 0 "@$work/longest.out" ''
 
 # For the table: a text of this length can only have too many rules, or a line that is not one.
 {

@@ -1,5 +1,6 @@
 //! What the tests and benchmarks share: a second implementation written from document 01, a source of inputs, and the proved library's
 //! exported functions with a look at all that was lent. The plain types are those of the proved library's Rust layer.
+pub mod alone;
 pub mod bracket;
 pub mod chart;
 pub mod format;

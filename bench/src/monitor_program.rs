@@ -1,19 +1,29 @@
-//! The monitor program of document 01, text in and text out, written from its paragraphs.
+//! The monitor program of document 01 with the nodes of document 02, text in and text out, written from their paragraphs.
 use crate::format::{lines, number, rules_from, signed};
 use crate::ring::{zone, Ring};
 use crate::{chart, refuse, Refusal, Rule};
 use std::io::Write;
 
+/// The nodes of a bench, 0 to 15.
+pub const NODES: usize = 16;
+
 struct MonitorText {
     centre: i32,
     step: u32,
     rules: Vec<Rule>,
-    readings: Vec<i32>,
+    points: Vec<(u32, i32)>,
 }
 
 fn chart_line(line: Option<&&[u8]>) -> Option<(i32, u32)> {
     let mut fields = line?.strip_prefix(b"chart,")?.split(|&b| b == b',');
     let found = (signed(fields.next()?)?, number(fields.next()?)?);
+    fields.next().is_none().then_some(found)
+}
+
+/// The node and the reading of a point line, whatever number the node is.
+pub fn point_line(line: &[u8]) -> Option<(u32, i32)> {
+    let mut fields = line.strip_prefix(b"point,")?.split(|&b| b == b',');
+    let found = (number(fields.next()?)?, signed(fields.next()?)?);
     fields.next().is_none().then_some(found)
 }
 
@@ -24,32 +34,47 @@ fn read(text: &[u8]) -> Result<MonitorText, Refusal> {
     let (lines, rest) = lines(text);
     let Some((centre, step)) = chart_line(lines.first()) else { return refuse(16, 1) };
     let rules = rules_from(&lines, 1);
-    let points = lines.iter().skip(1 + rules.len());
-    let readings: Vec<i32> = points.map_while(|line| signed(line.strip_prefix(b"point,")?)).collect();
-    let read = 1 + rules.len() + readings.len();
+    let opening = 1 + rules.len();
+    let points: Vec<(u32, i32)> = lines.iter().skip(opening).map_while(|line| point_line(line)).collect();
+    let read = opening + points.len();
     if lines.len() > read || !rest.is_empty() {
         return refuse(16, read as u32 + 1);
     }
-    Ok(MonitorText { centre, step, rules, readings })
+    if let Some(over) = points.iter().position(|&(node, _)| node > 15) {
+        return refuse(19, (opening + over) as u32 + 1);
+    }
+    Ok(MonitorText { centre, step, rules, points })
+}
+
+/// A node's standing, its points and its signals.
+#[derive(Clone, Default)]
+struct Node {
+    ring: Ring,
+    points: u32,
+    signals: u32,
 }
 
 /// What the program prints, or the refusal.
 pub fn monitor_program(text: &[u8]) -> Result<Vec<u8>, Refusal> {
-    let MonitorText { centre, step, rules, readings } = read(text)?;
+    let MonitorText { centre, step, rules, points } = read(text)?;
     chart::check(&rules)?;
     zone(0, centre, step)?;
-    let mut out = Vec::with_capacity(16 * readings.len() + 64);
-    let (mut ring, mut signals) = (Ring::default(), 0);
-    for &reading in &readings {
+    let mut out = Vec::with_capacity(16 * points.len() + 64);
+    let mut nodes: [Node; NODES] = Default::default();
+    for (node, reading) in points {
+        let Node { ring, points, signals } = &mut nodes[node as usize];
+        *points += 1;
         let mask = ring.point(&rules, zone(reading, centre, step)?);
         if mask == 0 {
-            writeln!(out, "quiet,{}", ring.count).expect("memory");
+            writeln!(out, "quiet,{node},{}", ring.count).expect("memory");
         } else {
-            writeln!(out, "signal,{},{mask}", ring.count).expect("memory");
-            signals += 1;
+            writeln!(out, "signal,{node},{},{mask}", ring.count).expect("memory");
+            *signals += 1;
             ring.clear();
         }
     }
-    writeln!(out, "total,{},{signals}", readings.len()).expect("memory");
+    for (node, Node { points, signals, .. }) in nodes.iter().enumerate().filter(|(_, node)| node.points > 0) {
+        writeln!(out, "total,{node},{points},{signals}").expect("memory");
+    }
     Ok(out)
 }

@@ -54,7 +54,23 @@ impl Source {
         }
     }
 
-    /// A text that is mostly accepted, with few points, some of them on the centre.
+    /// The nodes of a bench: mostly few of the sixteen, now and then all of them.
+    fn bench(&mut self) -> Vec<u64> {
+        match self.below(8) {
+            0 => (0..16).collect(),
+            n => (0..1 + n % 4).map(|_| self.below(16)).collect(),
+        }
+    }
+
+    /// What stands between the word of a point line and its reading, for a node that is over 15, or that cannot be read.
+    fn odd_node(&mut self) -> &'static str {
+        let over = ["16,", "17,", "255,", "256,", "4294967295,"];
+        let unread = ["4294967296,", "007,", "00,", "0016,", "+1,", "-1,", "-0,", " 1,", ",", ""];
+        let odd: &[&str] = if self.once_in(5) { &unread } else { &over };
+        odd[self.below(odd.len() as u64) as usize]
+    }
+
+    /// A text that is mostly accepted, with few points, some of them on the centre; now and then with odd nodes.
     pub fn monitor_text(&mut self) -> Vec<u8> {
         let centre = if self.once_in(8) { self.reading(0) } else { self.below(400) as i64 - 200 };
         let step = match self.below(60) {
@@ -67,10 +83,16 @@ impl Source {
         let mut text = format!("chart,{centre},{step}\n");
         let count = self.rule_count();
         self.rule_lines(&mut text, count, 9);
+        let (bench, odd) = (self.bench(), self.once_in(5));
         for _ in 0..self.below(40) {
             let near = centre + self.below(60) as i64 - 30;
             let reading = if self.once_in(6) { centre } else { self.reading(near) };
-            text += &format!("point,{reading}\n");
+            if odd && self.once_in(12) {
+                text += &format!("point,{}{reading}\n", self.odd_node());
+            } else {
+                let node = bench[self.below(bench.len() as u64) as usize];
+                text += &format!("point,{node},{reading}\n");
+            }
         }
         text.into_bytes()
     }
@@ -110,9 +132,9 @@ impl Source {
 
     /// One wrong thing, or more.
     pub fn damage(&mut self, text: &mut Vec<u8>) {
-        let pieces: [&[u8]; 17] = [
+        let pieces: &[&[u8]] = &[
             b"0", b"-", b"+", b",", b"\n", b"\r", b"\0", b" ", b"00", b"-0", b"4294967295", b"4294967296", b"rule,1,1,1\n", b"horizon,2\n",
-            b"point,1\n", b"shift,1\n", b"\n\n",
+            b"point,1\n", b"point,1,1\n", b"point,16,1\n", b"shift,1\n", b"\n\n",
         ];
         for _ in 0..1 + self.below(2) {
             let at = self.below(text.len() as u64 + 1) as usize;
@@ -128,7 +150,7 @@ impl Source {
                 }
                 4 if self.once_in(200) => text.resize([65_536, 65_537, 70_000][self.below(3) as usize], b'\n'),
                 _ => {
-                    let piece = pieces[self.below(17) as usize];
+                    let piece = pieces[self.below(pieces.len() as u64) as usize];
                     text.splice(at..at, piece.iter().copied());
                 }
             }

@@ -5,8 +5,8 @@
 //! signal clears it. The run length is the number of the first point that signals. A unit is 2^-60.
 //!
 //! A planner asks for the run length: [`table()`], [`Table`], [`bracket`], [`box_plot`]. For a normal reading, shifted or not, the weights
-//! come from [`shift_weights`]. A bench runs the chart: [`zone()`], [`Monitor`]. [`table_report`], [`monitor_report`] and [`weights_report`]
-//! are the three programs, text in and text out.
+//! come from [`shift_weights`]. A bench runs the chart: [`zone()`], and a [`Monitor`] for each core. [`table_report`], [`monitor_report`] and
+//! [`weights_report`] are the three programs, text in and text out.
 //!
 //! Every function takes any input. What it does not accept it refuses: see [`Refusal`]. A refused call alters nothing that was lent. What a
 //! function only writes to is marked `written only`. The functions keep nothing between calls, so that any number of threads may call them.
@@ -43,7 +43,7 @@ pub use monitor::{Batch, Monitor, Point, MAX_COUNT};
 pub use plot::{box_plot, BoxPlot, PlotItem};
 pub use refusal::Refusal;
 pub use report::{monitor_report, monitor_report_into, table_report, table_report_into, weights_report, weights_report_into};
-pub use report::{MAX_ROWS, MAX_TEXT, MONITOR_SIZE, TABLE_SIZE, WEIGHTS_SIZE};
+pub use report::{MAX_ROWS, MAX_TEXT, MONITOR_SIZE, NODES, TABLE_SIZE, WEIGHTS_SIZE};
 pub use rules::{Rule, RuleList, MAX_RULES, MAX_WINDOW};
 pub use shift::{shift_weights, MAX_SHIFT};
 pub use table::{bracket, table, Bracket, Figures, Table, MAX_HORIZON, MAX_STATES, UNITS_PER_ONE, WEIGHT_TOTAL};

@@ -4,7 +4,8 @@ use crate::{raw, Refusal, RuleList};
 /// A monitor with this count takes no more points.
 pub const MAX_COUNT: u32 = u32::MAX;
 
-/// A chart between two points: a plain value that may be stored and taken up again. It belongs to one rule list.
+/// A chart between two points: a plain value that may be stored and taken up again. It belongs to one rule list, and to one core: a bench with
+/// several cores keeps a monitor for each of them.
 #[derive(Clone, Copy, Debug, Default, PartialEq, Eq, Hash)]
 pub struct Monitor {
     /// The hits that the rules remember: byte i belongs to the rule with index i, and bit a - 1 of it is a hit a points back.

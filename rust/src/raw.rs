@@ -81,13 +81,13 @@ pub const VALUE_UPPER: usize = 11;
 /// In a plot record's values: the interquartile range, or 0.
 pub const VALUE_IQR: usize = 12;
 
-/// The number of a code: 0 for an accepted call, else the refusal's, 1 to 18.
+/// The number of a code: 0 for an accepted call, else the refusal's, 1 to 19.
 #[must_use]
 pub const fn number(code: u64) -> u32 {
     code as u32
 }
 
-/// The place of a code: the rule's index from 0 for 3 and 4, the line from 1 for 16, else 0.
+/// The place of a code: the rule's index from 0 for 3 and 4, the line from 1 for 16 and 19, else 0.
 #[must_use]
 pub const fn place(code: u64) -> u32 {
     (code >> 32) as u32

@@ -13,9 +13,9 @@ use std::fmt;
 /// ```
 #[derive(Clone, Copy, Debug, PartialEq, Eq, Hash)]
 pub struct Refusal {
-    /// 1 to 18.
+    /// 1 to 19.
     pub number: u32,
-    /// The rule's index from 0 for 3 and 4, the line from 1 for 16, else 0.
+    /// The rule's index from 0 for 3 and 4, the line from 1 for 16 and 19, else 0.
     pub place: u32,
 }
 
@@ -56,6 +56,8 @@ impl Refusal {
     pub const LONG_TEXT: u32 = 17;
     /// The shift is outside -150 to 150 hundredths of sigma.
     pub const BAD_SHIFT: u32 = 18;
+    /// A point's node is over 15.
+    pub const BAD_NODE: u32 = 19;
 
     /// What the code of an exported function says: 0 is accepted.
     pub const fn check(code: u64) -> Result<(), Refusal> {
@@ -88,6 +90,7 @@ impl Refusal {
             Refusal::BAD_LINE => "A line of the text is missing, is not the one expected, or cannot be read.",
             Refusal::LONG_TEXT => "The text has more than 65,536 bytes.",
             Refusal::BAD_SHIFT => "The shift is outside -150 to 150 hundredths of sigma.",
+            Refusal::BAD_NODE => "A point's node is over 15: there is no such node.",
             _ => "There is no such refusal.",
         }
     }

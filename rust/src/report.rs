@@ -7,14 +7,17 @@ pub const MAX_TEXT: usize = 65_536;
 /// The largest horizon of a table report.
 pub const MAX_ROWS: u32 = 4096;
 
+/// The nodes of a monitor report, numbered from 0.
+pub const NODES: usize = 16;
+
 /// Room for the table program's lines at its largest horizon, 4,096.
 pub const TABLE_SIZE: usize = 344_544;
 
 /// Room for the monitor program's lines for the longest text.
-pub const MONITOR_SIZE: usize = 401_456;
+pub const MONITOR_SIZE: usize = 262_744;
 
 /// Room for the weights program's line.
-pub const WEIGHTS_SIZE: usize = 176;
+pub const WEIGHTS_SIZE: usize = 96;
 
 /// The table program's lines for a text of a line of eight weights, rule lines and a horizon line.
 ///
@@ -34,15 +37,27 @@ pub fn table_report(text: &[u8]) -> Result<Vec<u8>, Refusal> {
     Ok(out)
 }
 
-/// The monitor program's lines for a text of a chart line, rule lines and point lines.
+/// The monitor program's lines for a text of a chart line, rule lines and point lines `point,node,reading`. Each node, 0 to 15, has a monitor
+/// of its own; the chart and the rules are common.
 ///
-/// Refused by 17; 16; 2; then rule by rule 3, 4; 1, in this order.
+/// A point is written, in the text's order, as `quiet,node,count` or `signal,node,count,mask`: the count is that of the node's points since
+/// its last signal, the mask the sum of 2^index over the rules that hold. Behind the last point each node that has points is written, in order
+/// of node, as `total,node,points,signals`. So a text without points has no lines. With the same chart and rules the lines of a node depend on
+/// its own points alone.
+///
+/// Refused by 17; 16; 19; 2; then rule by rule 3, 4; 1, in this order.
 ///
 /// ```
-/// let lines = catrovindy::monitor_report(b"chart,100,10\nrule,1,1,1\npoint,100\npoint,131\n");
-/// assert_eq!(lines, Ok(b"quiet,1\nsignal,2,1\ntotal,2,1\n".to_vec()));
-/// let refusal = catrovindy::monitor_report(b"chart,100,10\nrule,1,1,1\npoint,+1\n").unwrap_err();
-/// assert_eq!((refusal.number, refusal.place), (16, 3));
+/// use catrovindy::monitor_report;
+///
+/// let opening = "chart,100,10\nrule,1,1,1\n";
+/// let report = |points: &str| monitor_report(format!("{opening}{points}").as_bytes());
+/// let lines = report("point,5,100\npoint,0,131\npoint,5,131\n");
+/// assert_eq!(lines, Ok(b"quiet,5,1\nsignal,0,1,1\nsignal,5,2,1\ntotal,0,1,1\ntotal,5,2,1\n".to_vec()));
+/// // there is no node 16, and a point line has a node
+/// let refused = |points| report(points).map_err(|refusal| (refusal.number, refusal.place));
+/// assert_eq!(refused("point,5,100\npoint,16,100\n"), Err((19, 4)));
+/// assert_eq!(refused("point,100\n"), Err((16, 3)));
 /// ```
 pub fn monitor_report(text: &[u8]) -> Result<Vec<u8>, Refusal> {
     let mut out = vec![0; MONITOR_SIZE];

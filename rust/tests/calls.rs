@@ -1,8 +1,9 @@
 //! Every function once or more: answers that are known, inputs out of bounds, null lists, little stack, many threads.
 use catrovindy::{
-    box_plot, bracket, monitor_report, raw, shift_weights, table, table_report, weights_report, weights_report_into, zone, Batch, BoxPlot,
-    Bracket, Monitor, PlotItem, Point, Refusal, Rule, RuleList, Table, Weights, A1, ALL_ZONES, B1, C0, C1, MAX_COUNT, MAX_SHIFT, MAX_TEXT,
-    MONITOR_SIZE, S, SET_A1, SET_ABOVE, SET_A_OR_B_ABOVE, SET_BELOW, SET_C0, SET_S, TABLE_SIZE, WEIGHTS_SIZE, WEIGHT_TOTAL, ZONES,
+    box_plot, bracket, monitor_report, monitor_report_into, raw, shift_weights, table, table_report, weights_report, weights_report_into, zone,
+    Batch, BoxPlot, Bracket, Monitor, PlotItem, Point, Refusal, Rule, RuleList, Table, Weights, A1, ALL_ZONES, B1, C0, C1, MAX_COUNT, MAX_SHIFT,
+    MAX_TEXT, MONITOR_SIZE, NODES, S, SET_A1, SET_ABOVE, SET_A_OR_B_ABOVE, SET_BELOW, SET_C0, SET_S, TABLE_SIZE, WEIGHTS_SIZE, WEIGHT_TOTAL,
+    ZONES,
 };
 use std::ptr::{null, null_mut};
 
@@ -319,6 +320,69 @@ fn texts_of_shifts() {
     assert_eq!(refused(weights_report(&vec![b'\n'; MAX_TEXT + 1])), (17, 0));
 }
 
+/// The opening lines of a bench's text: the centre 100, sigma 10 and Western Electric's rules.
+fn opening() -> String {
+    let rules: String = RuleList::western_electric().rules().map(|r| format!("rule,{},{},{}\n", r.k, r.m, r.zones)).collect();
+    format!("chart,100,10\n{rules}")
+}
+
+/// The monitor report of points, each a node and a reading, behind the opening lines.
+fn bench(points: &[(u32, i32)]) -> Result<String, Refusal> {
+    let lines: String = points.iter().map(|(node, reading)| format!("point,{node},{reading}\n")).collect();
+    let report = monitor_report((opening() + &lines).as_bytes())?;
+    Ok(String::from_utf8(report).expect("a text"))
+}
+
+#[test]
+fn every_node_has_a_chart_of_its_own() {
+    let points = [(3, 121), (15, 121), (3, 100), (15, 131), (3, 121), (0, 100)];
+    let lines = "quiet,3,1\nquiet,15,1\nquiet,3,2\nsignal,15,2,1\nsignal,3,3,4\nquiet,0,1\ntotal,0,1,0\ntotal,3,3,1\ntotal,15,2,1\n";
+    assert_eq!(bench(&points), Ok(lines.into()));
+    // the lines of a node are those of its own points alone
+    for (node, own) in [
+        (0, "quiet,0,1\ntotal,0,1,0\n"),
+        (3, "quiet,3,1\nquiet,3,2\nsignal,3,3,4\ntotal,3,3,1\n"),
+        (15, "quiet,15,1\nsignal,15,2,1\ntotal,15,2,1\n"),
+    ] {
+        let alone: Vec<_> = points.into_iter().filter(|point| point.0 == node).collect();
+        assert_eq!(bench(&alone), Ok(own.into()), "node {node}");
+    }
+}
+
+#[test]
+fn nodes_are_totalled_in_their_order() {
+    let points: Vec<_> = (0..NODES as u32).rev().map(|node| (node, 100)).collect();
+    let quiet: String = (0..NODES).rev().map(|node| format!("quiet,{node},1\n")).collect();
+    let totals: String = (0..NODES).map(|node| format!("total,{node},1,0\n")).collect();
+    assert_eq!(bench(&points), Ok(quiet + &totals));
+}
+
+#[test]
+fn a_text_without_points_has_no_lines() {
+    assert_eq!(bench(&[]), Ok(String::new()));
+    let mut out: Box<[u8; MONITOR_SIZE]> = vec![9; MONITOR_SIZE].try_into().expect("the size");
+    assert_eq!(monitor_report_into(opening().as_bytes(), &mut out), Ok(0));
+    assert!(out.iter().all(|&b| b == 9), "the buffer is kept");
+}
+
+#[test]
+fn nodes_beyond_the_last() {
+    let last = NODES as u32 - 1;
+    assert!(bench(&[(last, 100)]).is_ok());
+    for node in [last + 1, 256, u32::MAX] {
+        assert_eq!(refused(bench(&[(node, 100)])), (19, 9), "node {node}");
+        assert_eq!(refused(bench(&[(0, 131), (last, 100), (node, 100), (node, 100)])), (19, 11), "the first of two points of node {node}");
+    }
+    let report = |text: &str| refused(monitor_report(text.as_bytes()));
+    // what cannot be read comes first, also behind it; the rules and sigma come after it
+    for line in ["point,100\n", "point,4294967296,100\n", "point,016,100\n", "point,-1,100\n", "point,+1,100\n", "point,,100\n", "point,0,0"] {
+        assert_eq!(report(&format!("{}point,16,0\n{line}", opening())), (16, 10), "{line}");
+    }
+    for (rules, place) in [("", 2), ("rule,3,2,1\n", 3), ("rule,1,1,256\n", 3), ("rule,1,1,1\n", 3)] {
+        assert_eq!(report(&format!("chart,100,0\n{rules}point,16,0\n")), (19, place), "{rules}");
+    }
+}
+
 #[test]
 fn refusals_in_words() {
     let refusal = Monitor::fresh().step(&RuleList::duncan().with(Rule::new(1, 1, 256)), C1).expect_err("a refusal");
@@ -348,7 +412,7 @@ fn little_stack_and_many_threads() {
     let work = move || {
         let lines = table_report(text).expect("accepted");
         let plot = BoxPlot::new(&RuleList::western_electric(), &IN_CONTROL, 300).expect("accepted");
-        let watched = monitor_report(b"chart,0,1\nrule,1,1,1\npoint,4\n").expect("accepted");
+        let watched = monitor_report(b"chart,0,1\nrule,1,1,1\npoint,0,4\npoint,15,4\n").expect("accepted");
         let weighed = (shift_weights(100).expect("accepted"), weights_report(b"shift,-100\n").expect("accepted"));
         (lines, plot, watched, weighed)
     };

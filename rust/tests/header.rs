@@ -103,6 +103,7 @@ fn ours() -> Numbers {
         ("UNITS_PER_ONE", UNITS_PER_ONE),
         ("MAX_TEXT", MAX_TEXT as u64),
         ("MAX_ROWS", MAX_ROWS.into()),
+        ("NODES", NODES as u64),
         ("TABLE_SIZE", TABLE_SIZE as u64),
         ("MONITOR_SIZE", MONITOR_SIZE as u64),
         ("WEIGHTS_SIZE", WEIGHTS_SIZE as u64),
@@ -161,6 +162,7 @@ fn ours() -> Numbers {
         ("BAD_LINE", Refusal::BAD_LINE.into()),
         ("LONG_TEXT", Refusal::LONG_TEXT.into()),
         ("BAD_SHIFT", Refusal::BAD_SHIFT.into()),
+        ("BAD_NODE", Refusal::BAD_NODE.into()),
     ]);
     // the kinds, and the places of the arrays
     add(&[
@@ -208,7 +210,7 @@ fn versions_agree() {
 fn the_header_has_the_proved_sizes() {
     let (_, proved) = proved();
     let declared = declared();
-    assert!(proved.len() >= 52, "{} numbers are too few", proved.len());
+    assert!(proved.len() >= 54, "{} numbers are too few", proved.len());
     for (name, value) in &proved {
         assert_eq!(declared.get(name), Some(value), "{name} in the header");
     }
@@ -312,7 +314,7 @@ fn refusals_have_the_same_words() {
         };
         words.insert(number, meaning.strip_suffix("\";").expect("the end of the words"));
     }
-    let expected: Vec<u64> = (0..=18).chain([u32::MAX.into()]).collect();
+    let expected: Vec<u64> = (0..=19).chain([u32::MAX.into()]).collect();
     assert_eq!(words.keys().copied().collect::<Vec<_>>(), expected);
     for (number, meaning) in words {
         let refusal = Refusal { number: number as u32, place: 3 };
@@ -320,7 +322,7 @@ fn refusals_have_the_same_words() {
         assert!(meaning.ends_with('.') && meaning.matches('.').count() == 1, "one sentence: {meaning}");
         assert_eq!(refusal.to_string(), format!("refused by {}, place 3: {meaning}", number as u32));
     }
-    assert_eq!(Refusal { number: 19, place: 0 }.meaning(), Refusal { number: u32::MAX, place: 0 }.meaning());
+    assert_eq!(Refusal { number: 20, place: 0 }.meaning(), Refusal { number: u32::MAX, place: 0 }.meaning());
 }
 
 /// A parameter: the type of its numbers, whether they may be written, the number of places of an array by its name, and its own name.

@@ -1,7 +1,8 @@
 //! Measures the proved library against the second implementation: the same input, both built for release, in one run. The two take turns, a
 //! round of one and a round of the other, and the best round of each counts. A ratio is the plain version's time over the proved one's.
+use bench::alone::nodes;
 use bench::inputs::Source;
-use bench::monitor_program::monitor_program;
+use bench::monitor_program::{monitor_program, NODES};
 use bench::ring::{zone, Ring};
 use bench::shift::{self, weights_by};
 use bench::table_program::table_program;
@@ -107,12 +108,12 @@ fn rule_lines() -> String {
     western_electric().iter().map(|r| format!("rule,{},{},{}\n", r.k, r.m, r.zones)).collect()
 }
 
-/// A text of nearly 65,536 bytes for the monitor: readings in control.
+/// A text of nearly 65,536 bytes for the monitor: readings in control, from sixteen nodes as they come.
 fn monitor_text() -> Vec<u8> {
     let mut source = Source::new(11);
     let mut text = format!("chart,100,10\n{}", rule_lines());
     loop {
-        let line = format!("point,{}\n", source.normal(100.0, 10.0).round());
+        let line = format!("point,{},{}\n", source.below(16), source.normal(100.0, 10.0).round());
         if text.len() + line.len() > 65_536 {
             return text.into_bytes();
         }
@@ -127,6 +128,8 @@ fn table_text() -> Vec<u8> {
 
 fn programs() {
     let text = monitor_text();
+    assert_eq!(nodes(&text).len(), NODES, "points of every node");
+    assert_eq!(catrovindy::monitor_report(&text), monitor_program(&text), "the same lines");
     let mut out: Box<[u8; MONITOR_SIZE]> = vec![0; MONITOR_SIZE].try_into().expect("the size");
     let (ours, theirs) = turns(
         200,

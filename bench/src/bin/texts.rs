@@ -1,8 +1,9 @@
 //! Compares the three proved programs with the second implementation on many texts, good and damaged: every byte printed, every refusal,
-//! and the places of the buffer that must be kept.
+//! and the places of the buffer that must be kept. Each node of a monitor text is compared with itself alone, in both.
+use bench::alone;
 use bench::inputs::Source;
-use bench::monitor_program::monitor_program;
 use bench::lent::{monitor_report, table_report, weights_report};
+use bench::monitor_program::monitor_program;
 use bench::table_program::table_program;
 use bench::tally::Tally;
 use bench::weights_program::weights_program;
@@ -42,37 +43,96 @@ impl Met {
     }
 }
 
-/// The table program and the monitor program.
-fn tables_and_monitors(count: u64) {
+/// The table program.
+fn tables(count: u64) {
     let mut source = Source::new(7);
-    let mut table_out: Box<[u8; TABLE_SIZE]> = vec![KEPT; TABLE_SIZE].try_into().expect("the size");
-    let mut monitor_out: Box<[u8; MONITOR_SIZE]> = vec![KEPT; MONITOR_SIZE].try_into().expect("the size");
-    let (mut tables, mut monitors) = (Met::new(TABLE_SIZE), Met::new(MONITOR_SIZE));
+    let mut out: Box<[u8; TABLE_SIZE]> = vec![KEPT; TABLE_SIZE].try_into().expect("the size");
+    let mut met = Met::new(TABLE_SIZE);
     let mut miscounted = 0;
     for i in 0..count {
-        let (mut table, mut monitor) = (source.table_text(), source.monitor_text());
+        let mut text = source.table_text();
         if i % 2 == 1 {
-            source.damage(&mut table);
-            source.damage(&mut monitor);
+            source.damage(&mut text);
         }
-        let ours = table_report(&table, &mut table_out);
-        let theirs = table_program(&table);
+        let ours = table_report(&text, &mut out);
+        let theirs = table_program(&text);
         // in a text that is not damaged only the number of weights can be wrong on the first line
         miscounted += u64::from(i % 2 == 0 && ours == Err(Refusal { number: 16, place: 1 }));
         if i % 16 < 2 {
-            assert!(catrovindy::table_report(&table) == theirs, "the Rust layer: {}", String::from_utf8_lossy(&table));
+            assert!(catrovindy::table_report(&text) == theirs, "the Rust layer: {}", String::from_utf8_lossy(&text));
         }
-        tables.compare(&table, ours, &mut table_out[..], theirs);
-        let ours = monitor_report(&monitor, &mut monitor_out);
-        let theirs = monitor_program(&monitor);
-        if i % 16 < 2 {
-            assert!(catrovindy::monitor_report(&monitor) == theirs, "the Rust layer: {}", String::from_utf8_lossy(&monitor));
-        }
-        monitors.compare(&monitor, ours, &mut monitor_out[..], theirs);
+        met.compare(&text, ours, &mut out[..], theirs);
     }
-    tables.tally.report("table program", &format!(" ({miscounted} others with seven or nine weights)"), &[2, 3, 4, 8, 9, 16, 17]);
-    monitors.tally.report("monitor program", "", &[1, 2, 3, 4, 16, 17]);
+    met.tally.report("table program", &format!(" ({miscounted} others with seven or nine weights)"), &[2, 3, 4, 8, 9, 16, 17]);
     assert!(miscounted > 0, "no text had seven or nine weights");
+}
+
+/// What was met of nodes: how many were compared with themselves alone; how many texts with a node over 15 were refused by 16; and of those
+/// refused by 19, what the program says of their opening lines.
+#[derive(Default)]
+struct NodesMet {
+    alone: u64,
+    unread: u64,
+    opening: Tally,
+}
+
+impl NodesMet {
+    /// Each node of an accepted text prints from its own points alone what it prints among the others, and no line is left over.
+    fn compare_alone(&mut self, text: &[u8], printed: &[u8], out: &mut [u8; MONITOR_SIZE]) {
+        let mut bytes = 0;
+        for node in alone::nodes(text) {
+            let (own, expected) = (alone::text_of(text, node), alone::lines_of(printed, node));
+            let shown = || format!("node {node} of {}", String::from_utf8_lossy(text));
+            let n = monitor_report(&own, out).unwrap_or_else(|refusal| panic!("{refusal}, {}", shown()));
+            assert!(out[..n] == expected[..], "proved, {}", shown());
+            out[..n].fill(KEPT);
+            assert!(monitor_program(&own).as_ref() == Ok(&expected), "plain, {}", shown());
+            bytes += expected.len();
+            self.alone += 1;
+        }
+        assert_eq!(bytes, printed.len(), "lines of no node of {}", String::from_utf8_lossy(text));
+    }
+
+    /// Counts what stands before 19 and behind it.
+    fn count_order(&mut self, text: &[u8], refusal: Refusal) {
+        match refusal.number {
+            16 => self.unread += u64::from(alone::nodes(text).last().is_some_and(|&node| node > 15)),
+            19 => self.opening.add(&monitor_program(&alone::opening(text))),
+            _ => {}
+        }
+    }
+
+    fn report(&self) -> String {
+        let NodesMet { alone, unread, opening } = self;
+        format!(" ({alone} nodes print the same alone; 16 comes before 19 in {unread} texts, and 19 before these: {:?})", opening.refused)
+    }
+}
+
+/// The monitor program.
+fn monitors(count: u64) {
+    let mut source = Source::new(16);
+    let mut out: Box<[u8; MONITOR_SIZE]> = vec![KEPT; MONITOR_SIZE].try_into().expect("the size");
+    let (mut met, mut nodes) = (Met::new(MONITOR_SIZE), NodesMet::default());
+    for i in 0..count {
+        let mut text = source.monitor_text();
+        if i % 2 == 1 {
+            source.damage(&mut text);
+        }
+        let ours = monitor_report(&text, &mut out);
+        let theirs = monitor_program(&text);
+        if i % 16 < 2 {
+            assert!(catrovindy::monitor_report(&text) == theirs, "the Rust layer: {}", String::from_utf8_lossy(&text));
+        }
+        met.compare(&text, ours, &mut out[..], theirs.clone());
+        match theirs {
+            Ok(printed) => nodes.compare_alone(&text, &printed, &mut out),
+            Err(refusal) => nodes.count_order(&text, refusal),
+        }
+    }
+    met.tally.report("monitor program", &nodes.report(), &[1, 2, 3, 4, 16, 17, 19]);
+    let behind: Vec<u32> = nodes.opening.refused.keys().copied().collect();
+    assert!(nodes.alone > 0 && nodes.unread > 0 && nodes.opening.accepted > 0, "too little was met of nodes");
+    assert_eq!(behind, [1, 2, 3, 4], "the numbers that 19 came before, and those that it must come before");
 }
 
 /// The weights program, also by the Rust layer's own buffer and by one that is lent to it.
@@ -101,6 +161,7 @@ fn weights(count: u64) {
 
 fn main() {
     let count: u64 = std::env::args().nth(1).map_or(100_000, |a| a.parse().expect("a number of texts"));
-    tables_and_monitors(count);
+    tables(count);
+    monitors(count);
     weights(count);
 }

@@ -6,7 +6,7 @@ use native.Mathlib.Omega.{arith}
 use native.Mathlib.Nat.{add-zero}
 use lib.ListN.{length}
 use lib.IntN.{ℤ}
-use borrow.Author.Tests.{le-leb, lt-leb}
+use borrow.Author.Tests.{le-leb, lt-leb, lt-ltb, le-ltb}
 use Rattle.text.specs.declared.lines.Line.{Line}
 use Rattle.text.specs.declared.lines.Line.the-variants.{Chart}
 use Rattle.text.specs.Line.{lineAt}
@@ -15,14 +15,14 @@ use Rattle.text.specs.KindLaws.{other-kind, chart-passed}
 use Rattle.parse.specs.declared.rule_lines.RulesRead.{RulesRead}
 use Rattle.parse.specs.declared.point_lines.PointsRead.{PointsRead}
 use Rattle.parse.specs.declared.monitors.MonitorText.{MonitorText}
-use Rattle.rules.specs.Refusal.{notRefused, badLine, tooLong}
+use Rattle.rules.specs.Refusal.{notRefused, badLine, tooLong, badNode}
 use Rattle.text.specs.Size.{maxText, minLine}
 use Rattle.parse.specs.Rules.{rulesAt, afterRules, rulesRead}
 use Rattle.parse.specs.RulesLaws.{rules-fit}
-use Rattle.parse.specs.Readings.{afterPoints, pointsRead}
-use Rattle.parse.specs.ReadingsLaws.{points-fit, no-points}
+use Rattle.parse.specs.Readings.{pointsAt, afterPoints, benchPoints, pointsRead}
+use Rattle.parse.specs.ReadingsLaws.{points-fit, no-points, bench-most}
 use Rattle.parse.proofs.PartCases.{bad-rule}
-use Rattle.parse.specs.MonitorText.{refusedMonitor, readMonitor, monitorEnd, monitorText}
+use Rattle.parse.specs.MonitorText.{refusedMonitor, readMonitor, monitorBy, monitorEnd, monitorText}
 
 pub too-long : (s : List ℕ) → maxText < length s → refusedMonitor tooLong ≡ monitorText s
 unfolding monitorText
@@ -35,7 +35,7 @@ other-first s h x e n = rw (le-leb (length s) maxText h, ← e, chart-passed x _
 
 pub refused-rule : (s : List ℕ) → length s ≤ maxText → {c : ℤ} {d at : ℕ} → lineAt s 0 ≡ Chart c d at
     → (r : RulesRead) → r ≡ rulesRead s at → (r .refusal .number ≡ 0 → ⊥) → refusedMonitor (r .refusal) ≡ monitorText s
-unfolding rulesRead monitorEnd monitorText
+unfolding rulesRead monitorBy monitorEnd monitorText
 refused-rule s short {c} {d} {at} first r read n =
     let b = bad-rule s at r read n in
     let line : r .line ≡ 2 + length (rulesAt (length s) s at) = rw read in
@@ -51,14 +51,32 @@ module _ (s : List ℕ) (short : length s ≤ maxText) {c : ℤ} {d at : ℕ} (f
   line-fits = rw (found, read) (omega (arith, rules-fit (length s) s at, points-fit (length s) s (afterRules (length s) s at)))
 
   pub goes-on : p .next < length s → refusedMonitor (badLine (r .line + p .count)) ≡ monitorText s
-  unfolding rulesRead pointsRead monitorEnd monitorText
+  unfolding rulesRead pointsRead monitorBy monitorEnd monitorText
   goes-on l =
       let h = rw (found, read) at l in
       rw (found, read, le-leb (length s) maxText short, first, lt-leb (length s) (afterPoints (length s) s (afterRules (length s) s at)) h)
 
-  pub whole : length s ≤ p .next
-      → _≡_ {A = MonitorText} (record { refusal = notRefused; centre = c; sigma = d; list = r .list; points = r .next; count = p .count }) (monitorText s)
-  unfolding rulesRead pointsRead readMonitor monitorEnd monitorText
-  whole l =
-      let h = rw (found, read) at l in
-      rw (found, read, le-leb (length s) maxText short, first, le-leb (length s) (afterPoints (length s) s (afterRules (length s) s at)) h)
+  -- the number of the first point whose node is none of the bench's fits too
+  pub node-fits : minLine * (r .line + p .good) ≤ 2 * maxText + minLine * 2
+  unfolding pointsRead
+  node-fits =
+      let most : p .good ≤ p .count = rw found (bench-most (pointsAt (length s) s (r .next))) in
+      omega (arith, line-fits)
+
+  module _ (end : length s ≤ p .next) where
+    pub off-bench : p .good < p .count → refusedMonitor (badNode (r .line + p .good)) ≡ monitorText s
+    unfolding rulesRead pointsRead monitorBy monitorEnd monitorText
+    off-bench l =
+        let h = rw (found, read) at end in
+        let b = rw (found, read) at l in
+        let ps = pointsAt (length s) s (afterRules (length s) s at) in
+        rw (found, read, le-leb (length s) maxText short, first, le-leb (length s) (afterPoints (length s) s (afterRules (length s) s at)) h, lt-ltb (benchPoints ps) (length ps) b)
+
+    pub whole : p .count ≤ p .good
+        → _≡_ {A = MonitorText} (record { refusal = notRefused; centre = c; sigma = d; list = r .list; points = r .next; count = p .count }) (monitorText s)
+    unfolding rulesRead pointsRead readMonitor monitorBy monitorEnd monitorText
+    whole l =
+        let h = rw (found, read) at end in
+        let b = rw (found, read) at l in
+        let ps = pointsAt (length s) s (afterRules (length s) s at) in
+        rw (found, read, le-leb (length s) maxText short, first, le-leb (length s) (afterPoints (length s) s (afterRules (length s) s at)) h, le-ltb (benchPoints ps) (length ps) b)

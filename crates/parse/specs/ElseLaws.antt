@@ -20,7 +20,7 @@ module _ (l : Line) where
   else-chart t = chart-or-none l (λ c d next e. absurd (miss (tagsBut chart) _ tt (rw e at t))) (λ n. n)
 
   pub else-point : OneOf (tagsBut point) (tagOf the-type l) → NotOf point l
-  else-point t = point-or-none l (λ x next e. absurd (miss (tagsBut point) _ tt (rw e at t))) (λ n. n)
+  else-point t = point-or-none l (λ node x next e. absurd (miss (tagsBut point) _ tt (rw e at t))) (λ n. n)
 
   pub else-shift : OneOf (tagsBut shift) (tagOf the-type l) → NotOf shift l
   else-shift t = shift-or-none l (λ x next e. absurd (miss (tagsBut shift) _ tt (rw e at t))) (λ n. n)

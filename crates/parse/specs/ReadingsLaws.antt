@@ -1,57 +1,57 @@
--- Laws of the point lines: they fit into the text, and are read line by line, up to one that is none.
-use Prim.Native.Nat.{ℕ, zero, suc, _+_, _*_, _≤_}
+-- Laws of the point lines: they fit into the text, and are read line by line, up to one that is none; and of their nodes.
+use Prim.Native.Nat.{ℕ, zero, suc, _+_, _*_, _≤_, _<_}
 use mathlib.Core.Path.{_≡_, refl, ap}
-use mathlib.Core.Bool.{Bool, true, false}
-use mathlib.Core.List.{List, [], _∷_}
+use mathlib.Core.Bool.{Bool, true, false, cond}
+use mathlib.Core.List.{List, [], _∷_, _++_}
 use native.Mathlib.Omega.{arith}
 use lib.ListN.{length}
-use lib.Dec.{leb}
+use lib.Dec.{leb, ltb, eqb}
 use lib.IntN.{ℤ}
-use borrow.Author.Tests.{leb-true, leb-false}
+use borrow.Author.Tests.{leb-true, leb-false, lt-ltb, le-ltb, ltb-true, ltb-false, eq-eqb, ne-eqb}
 use Rattle.text.specs.declared.lines.Line.the-variants.{Point}
 use Rattle.text.specs.Line.{lineAt}
 use Rattle.text.specs.LineLaws.{point-ahead, line-beyond}
 use Rattle.text.specs.Size.{minPoint}
 use Rattle.text.specs.Kind.{point, kindOf, NotOf}
 use Rattle.text.specs.KindLaws.{other-kind, point-or-none, point-passed}
-use Rattle.parse.specs.Readings.{readingsAt, afterPoints}
+use Rattle.parse.specs.Readings.{NodeReading, nodeReading, pointsAt, afterPoints, nodeCount, OnBench, benchPoints, readingsOf}
 
 -- ---- they fit into the text
 
 points-span : (fuel : ℕ) (s : List ℕ) (at : ℕ) → at ≤ length s
-    → at + minPoint * length (readingsAt fuel s at) ≤ length s
-unfolding readingsAt
+    → at + minPoint * length (pointsAt fuel s at) ≤ length s
+unfolding pointsAt
 points-span zero s at h = omega arith
 points-span (suc fuel) s at h =
     point-or-none (lineAt s at)
-    (λ x next e.
-    let a = point-ahead s at x next e in
+    (λ node x next e.
+    let a = point-ahead s at node x next e in
     rw e (omega (arith, a, points-span fuel s next (a .1))))
     (λ n. rw (point-passed (lineAt s at) _ _ n) (omega arith))
 
-pub points-fit : (fuel : ℕ) (s : List ℕ) (at : ℕ) → minPoint * length (readingsAt fuel s at) ≤ length s
-unfolding readingsAt
+pub points-fit : (fuel : ℕ) (s : List ℕ) (at : ℕ) → minPoint * length (pointsAt fuel s at) ≤ length s
+unfolding pointsAt
 points-fit zero s at = omega arith
 points-fit (suc fuel) s at = go (leb at (length s)) refl
   where
-    go : (t : Bool) → leb at (length s) ≡ t → minPoint * length (readingsAt (suc fuel) s at) ≤ length s
+    go : (t : Bool) → leb at (length s) ≡ t → minPoint * length (pointsAt (suc fuel) s at) ≤ length s
     go true e = let h = points-span (suc fuel) s at (leb-true at (length s) e) in omega (arith, h)
     go false e = let h = leb-false at (length s) e in rw (line-beyond s at (omega arith)) (omega arith)
 
 -- ---- line by line
 
--- a point line, and fuel enough: one reading, and those behind it
-pub one-point : (fuel : ℕ) (s : List ℕ) (at : ℕ) (x : ℤ) (next : ℕ) → lineAt s at ≡ Point x next → length s ≤ at + fuel
-    → (f : ℕ) × (length s ≤ next + f) × (readingsAt fuel s at ≡ x ∷ readingsAt f s next)
+-- a point line, and fuel enough: one point, and those behind it
+pub one-point : (fuel : ℕ) (s : List ℕ) (at node : ℕ) (x : ℤ) (next : ℕ) → lineAt s at ≡ Point node x next → length s ≤ at + fuel
+    → (f : ℕ) × (length s ≤ next + f) × (pointsAt fuel s at ≡ nodeReading node x ∷ pointsAt f s next)
     × (afterPoints fuel s at ≡ afterPoints f s next)
-unfolding readingsAt afterPoints
-one-point zero s at x next e h = absurd (omega (arith, point-ahead s at x next e))
-one-point (suc f) s at x next e h = (f, omega (arith, point-ahead s at x next e), rw e, rw e)
+unfolding pointsAt afterPoints
+one-point zero s at node x next e h = absurd (omega (arith, point-ahead s at node x next e))
+one-point (suc f) s at node x next e h = (f, omega (arith, point-ahead s at node x next e), rw e, rw e)
 
--- another line: no readings
+-- another line: no points
 pub no-points : (fuel : ℕ) (s : List ℕ) (at : ℕ) → NotOf point (lineAt s at)
-    → (readingsAt fuel s at ≡ []) × (afterPoints fuel s at ≡ at)
-unfolding readingsAt afterPoints
+    → (pointsAt fuel s at ≡ []) × (afterPoints fuel s at ≡ at)
+unfolding pointsAt afterPoints
 no-points zero s at n = (refl, refl)
 no-points (suc fuel) s at n = (point-passed (lineAt s at) _ _ n, point-passed (lineAt s at) _ _ n)
 
@@ -62,5 +62,96 @@ unfolding afterPoints
 points-end zero s at h = other-kind (ap kindOf (line-beyond s at (omega arith))) (λ q. omega arith)
 points-end (suc fuel) s at h =
     point-or-none (lineAt s at)
-    (λ x next e. rw e (points-end fuel s next (omega (arith, point-ahead s at x next e))))
+    (λ node x next e. rw e (points-end fuel s next (omega (arith, point-ahead s at node x next e))))
     (λ n. rw (point-passed (lineAt s at) _ _ n) n)
+
+-- ---- the nodes
+
+pub bench-most : (ps : List NodeReading) → benchPoints ps ≤ length ps
+unfolding benchPoints
+bench-most [] = omega arith
+bench-most (p ∷ ps) = go (ltb (p .node) nodeCount) (bench-most ps)
+  where
+    go : (b : Bool) → benchPoints ps ≤ length ps → cond b (suc (benchPoints ps)) 0 ≤ suc (length ps)
+    go true h = omega arith
+    go false h = omega arith
+
+-- where no point is before a bad node but all are, every node is one of the bench's
+pub all-bench : (ps : List NodeReading) → length ps ≤ benchPoints ps → OnBench ps
+unfolding benchPoints OnBench
+all-bench [] h = tt
+all-bench (p ∷ ps) h = go (ltb (p .node) nodeCount) refl h (λ l. all-bench ps l)
+  where
+    go : (b : Bool) → ltb (p .node) nodeCount ≡ b → suc (length ps) ≤ cond b (suc (benchPoints ps)) 0 → (length ps ≤ benchPoints ps → OnBench ps) → OnBench (p ∷ ps)
+    go true e h f = (ltb-true _ _ e, f (omega arith))
+    go false e h f = absurd (omega arith)
+
+pub bench-all : (ps : List NodeReading) → OnBench ps → benchPoints ps ≡ length ps
+unfolding benchPoints OnBench
+bench-all [] o = refl
+bench-all (p ∷ ps) o = rw (lt-ltb (p .node) nodeCount (o .0)) (omega (arith, bench-all ps (o .1)))
+
+-- the first point whose node is none of the bench's
+pub record FirstOff (ps : List NodeReading) : Type 0 where
+  pub before : List NodeReading
+  pub point : NodeReading
+  pub after : List NodeReading
+  pub split : ps ≡ before ++ (point ∷ after)
+  pub good : OnBench before
+  pub bad : nodeCount ≤ point .node
+  pub place : length before ≡ benchPoints ps
+
+pub first-off : (ps : List NodeReading) → benchPoints ps < length ps → FirstOff ps
+unfolding benchPoints OnBench
+first-off [] h = absurd (omega arith)
+first-off (p ∷ ps) h = go (ltb (p .node) nodeCount) refl h (λ l. first-off ps l)
+  where
+    go : (b : Bool) → ltb (p .node) nodeCount ≡ b → cond b (suc (benchPoints ps)) 0 < suc (length ps) → (benchPoints ps < length ps → FirstOff ps) → FirstOff (p ∷ ps)
+    go true e h f =
+        let r = f (omega arith) in
+        record {
+          before = p ∷ r .before;
+          point = r .point;
+          after = r .after;
+          split = ap (λ (l : List NodeReading). p ∷ l) (r .split);
+          good = (ltb-true _ _ e, r .good);
+          bad = r .bad;
+          place = rw e (omega (arith, r .place));
+        }
+    go false e h f = record { before = []; point = p; after = ps; split = refl; good = tt; bad = ltb-false _ _ e; place = rw e }
+
+pub off-place : (before : List NodeReading) (p : NodeReading) (after : List NodeReading) → OnBench before → nodeCount ≤ p .node
+    → benchPoints (before ++ (p ∷ after)) ≡ length before
+unfolding benchPoints OnBench
+off-place [] p after o l = rw (le-ltb (p .node) nodeCount l)
+off-place (q ∷ before) p after o l = rw (lt-ltb (q .node) nodeCount (o .0)) (omega (arith, off-place before p after (o .1) l))
+
+-- ---- one node's readings
+
+pub readings-append : (node : ℕ) (ps qs : List NodeReading) → readingsOf node (ps ++ qs) ≡ readingsOf node ps ++ readingsOf node qs
+unfolding readingsOf
+readings-append node [] qs = refl
+readings-append node (p ∷ ps) qs = go (eqb (p .node) node) (readings-append node ps qs)
+  where
+    go : (b : Bool) → readingsOf node (ps ++ qs) ≡ readingsOf node ps ++ readingsOf node qs
+        → cond b (p .reading ∷ readingsOf node (ps ++ qs)) (readingsOf node (ps ++ qs)) ≡ cond b (p .reading ∷ readingsOf node ps) (readingsOf node ps) ++ readingsOf node qs
+    go true e = ap (λ (l : List ℤ). p .reading ∷ l) e
+    go false e = e
+
+-- a point of the node, and one of another
+pub reading-own : (node : ℕ) (x : ℤ) → readingsOf node (nodeReading node x ∷ []) ≡ x ∷ []
+unfolding readingsOf
+reading-own node x = rw (eq-eqb node node refl)
+
+pub reading-other : (node other : ℕ) (x : ℤ) → (other ≡ node → ⊥) → readingsOf node (nodeReading other x ∷ []) ≡ []
+unfolding readingsOf
+reading-other node other x n = rw (ne-eqb other node n)
+
+pub readings-few : (node : ℕ) (ps : List NodeReading) → length (readingsOf node ps) ≤ length ps
+unfolding readingsOf
+readings-few node [] = omega arith
+readings-few node (p ∷ ps) = go (eqb (p .node) node) (readings-few node ps)
+  where
+    go : (b : Bool) → length (readingsOf node ps) ≤ length ps → length (cond b (p .reading ∷ readingsOf node ps) (readingsOf node ps)) ≤ suc (length ps)
+    go true h = omega arith
+    go false h = omega arith

@@ -8,6 +8,7 @@ mod tables;
 
 pub use monitors::MonitorText;
 pub use monitors::monitor_text;
+pub use point_lines::NODES;
 pub use shifts::ShiftText;
 pub use shifts::shift_text;
 pub use tables::TableText;

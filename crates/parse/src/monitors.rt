@@ -33,7 +33,8 @@ fn refused_monitor(number: u32, place: u32) -> MonitorText
     }
 }
 
-// The text read whole, every point line included: 17, then 16 at the first line that is not the one expected.
+// The text read whole, every point line included: 17, then 16 at the first line that is not the one expected, then 19 at the first point
+// whose node is over the last one.
 pub fn monitor_text(text: &[u8]) -> MonitorText
     ensures { λ r. ⌜ r ≡ monitorText (now (text .entry)) ⌝ }
 {
@@ -58,6 +59,10 @@ pub fn monitor_text(text: &[u8]) -> MonitorText
     let end = found.next;
     if end < text.len() {
         return refused_monitor(Refusal::LINE, line + count);
+    }
+    let good = found.good;
+    if good < count {
+        return refused_monitor(Refusal::NODE, line + good);
     }
     MonitorText {
         refusal: Refusal {

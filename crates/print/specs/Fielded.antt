@@ -10,13 +10,13 @@ use Rattle.text.specs.Format.{field, fields}
 use Rattle.text.specs.FieldsLaws.{fields-snoc}
 use Rattle.text.specs.Wrote.{Wrote}
 use Rattle.text.specs.WroteLaws.{wrote-nothing, wrote-length, then}
-use Rattle.print.specs.Field.{fieldRoom}
+use Rattle.print.specs.Field.{shortField}
 
 -- the fields of the first i numbers stand in the buffer from `at` on, up to e
 pub record Fielded (before : List ℕ) (at : ℕ) (ns after : List ℕ) (e i : ℕ) : Type 0 where
   pub upto : i ≤ length ns
   pub size : length after ≡ length before
-  pub room : e ≤ at + fieldRoom * i
+  pub room : e ≤ at + shortField * i
   pub wrote : Wrote before at after e (fields (take i ns))
 
 module _ {a : List ℕ} {at : ℕ} {ns : List ℕ} where
@@ -25,7 +25,7 @@ module _ {a : List ℕ} {at : ℕ} {ns : List ℕ} where
   fielded-start l = record { upto = omega arith; size = refl; room = omega arith; wrote = wrote-nothing a at l }
 
   pub fielded-more : {b c : List ℕ} {e i x r : ℕ} → Fielded a at ns b e i → i < length ns → x ≡ getD ns i 0 → Wrote b e c r (field x)
-      → r ≤ e + fieldRoom → Fielded a at ns c r (i + 1)
+      → r ≤ e + shortField → Fielded a at ns c r (i + 1)
   fielded-more {b} {c} {e} {i} {x} {r} f l q w m =
       let more : fields (take (i + 1) ns) ≡ fields (take i ns) ++ field x = rw (add-one, take-suc ns i 0 l, q) (fields-snoc (take i ns) (getD ns i 0)) in
       record { upto = omega arith; size = wrote-length w ∙ f .size; room = omega arith; wrote = rw more (then (f .wrote) w) }

@@ -6,7 +6,7 @@ use lib.Dec.{eqb}
 use lib.ListN.{length}
 use Rattle.text.specs.Word.{newline}
 use Rattle.print.specs.declared.monitor.PointLine.{PointLine}
-use Rattle.print.specs.Field.{field, fieldRoom}
+use Rattle.print.specs.Field.{field, shortField}
 
 -- `quiet`
 abbrev pub quietWord : List ℕ
@@ -20,25 +20,25 @@ signalWord = 115 ∷ 105 ∷ 103 ∷ 110 ∷ 97 ∷ 108 ∷ []
 abbrev pub totalWord : List ℕ
 totalWord = 116 ∷ 111 ∷ 116 ∷ 97 ∷ 108 ∷ []
 
--- quiet,n
-unfoldable pub quietLine : ℕ → List ℕ
-quietLine n = quietWord ++ field n ++ newline
+-- quiet,node,n
+unfoldable pub quietLine : ℕ → ℕ → List ℕ
+quietLine node n = quietWord ++ field node ++ field n ++ newline
 
--- signal,n,mask
-unfoldable pub signalLine : ℕ → ℕ → List ℕ
-signalLine n mask = signalWord ++ field n ++ field mask ++ newline
+-- signal,node,n,mask
+unfoldable pub signalLine : ℕ → ℕ → ℕ → List ℕ
+signalLine node n mask = signalWord ++ field node ++ field n ++ field mask ++ newline
 
 -- the line of a point: quiet where no rule holds
 unfoldable pub pointLine : PointLine → List ℕ
-pointLine p = cond (eqb (p .mask) 0) (quietLine (p .count)) (signalLine (p .count) (p .mask))
+pointLine p = cond (eqb (p .mask) 0) (quietLine (p .node) (p .count)) (signalLine (p .node) (p .count) (p .mask))
 
--- total,points,signals
-unfoldable pub totalLine : ℕ → ℕ → List ℕ
-totalLine points signals = totalWord ++ field points ++ field signals ++ newline
+-- total,node,points,signals
+unfoldable pub totalLine : ℕ → ℕ → ℕ → List ℕ
+totalLine node points signals = totalWord ++ field node ++ field points ++ field signals ++ newline
 
 -- the most bytes that each has; a signal's line is the longer one of a point
 abbrev pub pointRoom : ℕ
-pointRoom = length signalWord + fieldRoom + fieldRoom + length newline
+pointRoom = length signalWord + shortField + shortField + shortField + length newline
 
 abbrev pub totalRoom : ℕ
-totalRoom = length totalWord + fieldRoom + fieldRoom + length newline
+totalRoom = length totalWord + shortField + shortField + shortField + length newline

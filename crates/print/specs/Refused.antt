@@ -3,7 +3,7 @@ use Prim.Native.Nat.{ℕ, _+_}
 use mathlib.Core.List.{List, [], _∷_, _++_}
 use lib.ListN.{length}
 use Rattle.text.specs.Word.{newline}
-use Rattle.print.specs.Field.{field, fieldRoom}
+use Rattle.print.specs.Field.{field, shortField}
 
 -- `refused`
 abbrev pub refusedWord : List ℕ
@@ -15,4 +15,4 @@ refusedLine number place = refusedWord ++ field number ++ field place ++ newline
 
 -- the most bytes that it has
 abbrev pub refusedRoom : ℕ
-refusedRoom = length refusedWord + fieldRoom + fieldRoom + length newline
+refusedRoom = length refusedWord + shortField + shortField + length newline

@@ -7,7 +7,7 @@ use Rattle.rules.specs.Bounds.{zoneCount}
 use Rattle.text.specs.declared.lines.Line.the-variants.{Weights}
 use Rattle.text.specs.Format.{bytesOf}
 use Rattle.text.specs.Word.{newline, weightsWord}
-use Rattle.print.specs.Field.{fieldRoom}
+use Rattle.print.specs.Field.{shortField}
 
 -- the very bytes of a weights line of the text format; the offset behind a line is no part of them
 unfoldable pub weightLine : ZoneWeights → List ℕ
@@ -15,4 +15,4 @@ weightLine w = bytesOf (Weights w 0)
 
 -- the most bytes that it has
 abbrev pub weightsRoom : ℕ
-weightsRoom = length weightsWord + zoneCount * fieldRoom + length newline
+weightsRoom = length weightsWord + zoneCount * shortField + length newline

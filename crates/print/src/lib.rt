@@ -10,6 +10,7 @@ mod tables;
 mod weights;
 
 pub use monitor::PointLine;
+pub use monitor::TotalLine;
 pub use monitor::put_point;
 pub use monitor::put_total;
 pub use refused::put_refused;

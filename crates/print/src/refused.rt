@@ -1,6 +1,6 @@
 // The line of a refused text.
-use crate::field::put_field;
-use crate::field::put_named;
+use crate::field::put_short_field;
+use crate::field::put_short_named;
 use rules::Refusal;
 use text::put_byte;
 ghost use Prim.Native.Nat.{_+_, _≤_};
@@ -14,7 +14,7 @@ pub fn put_refused(out: &mut [u8], at: usize, refusal: Refusal) -> usize
     ensures { λ r. ⌜ Wrote (now (out .entry)) at (now (out .exit)) r (refusedLine (refusal .number) (refusal .place)) ⌝ }
     ensures { λ r. ⌜ r ≤ at + refusedRoom ⌝ }
 {
-    let a = put_named(out, at, b"refused", refusal.number as u64);
-    let b = put_field(out, a, refusal.place as u64);
+    let a = put_short_named(out, at, b"refused", refusal.number);
+    let b = put_short_field(out, a, refusal.place);
     put_byte(out, b, b'\n')
 }

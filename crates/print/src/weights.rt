@@ -1,33 +1,26 @@
 // The weights program's line.
-use crate::field::put_field;
+use crate::field::put_short_field;
 use rules::ZoneWeights;
 use rules::weight_array;
 use text::put_byte;
 use text::put_bytes;
-ghost use mathlib.Core.Path.{_≡_};
 ghost use Prim.Native.Nat.{_+_, _*_, _≤_};
 ghost use lib.ListN.{length};
 ghost use Rattle.text.specs.Format.{fields};
 ghost use Rattle.text.specs.Wrote.{Wrote};
-ghost use Rattle.print.specs.Field.{fieldRoom};
+ghost use Rattle.print.specs.Field.{shortField};
 ghost use Rattle.print.specs.WeightLine.{weightLine, weightsRoom};
-
-fn wide(x: u32) -> u64
-    ensures { λ r. ⌜ r ≡ x ⌝ }
-{
-    x as u64
-}
 
 // A field for each of the numbers, one behind the other.
 fn put_fields(out: &mut [u8], at: usize, numbers: &[u32]) -> usize
-    requires { ⌜ at + fieldRoom * length (now numbers) ≤ length (now out) ⌝ }
+    requires { ⌜ at + shortField * length (now numbers) ≤ length (now out) ⌝ }
     ensures { λ r. ⌜ Wrote (now (out .entry)) at (now (out .exit)) r (fields (now (numbers .entry))) ⌝ }
-    ensures { λ r. ⌜ r ≤ at + fieldRoom * length (now (numbers .entry)) ⌝ }
+    ensures { λ r. ⌜ r ≤ at + shortField * length (now (numbers .entry)) ⌝ }
 {
     let mut e = at;
     let mut i = 0;
     while i < numbers.len() {
-        e = put_field(out, e, wide(numbers[i]));
+        e = put_short_field(out, e, numbers[i]);
         i += 1;
     }
     e

@@ -11,6 +11,10 @@ pub mod NumberOnce
 pub mod LinesOnce
 pub mod WeightsLine
 pub mod PrintedOnce
+pub mod NodeLines
+pub mod NodeLinesLaws
+pub mod NodeBytes
+pub mod Isolation
 pub mod WeightsTexts
 pub mod WeightsBytes
 pub mod WeightsProgram

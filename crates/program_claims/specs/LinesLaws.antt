@@ -4,7 +4,6 @@ use mathlib.Core.Path.{_≡_, refl, sym, ap, _∙_}
 use mathlib.Core.Logic.{⊎-elim}
 use mathlib.Core.List.{List, [], _∷_, _++_, append-nil}
 use native.Mathlib.Omega.{arith}
-use lib.IntN.{ℤ}
 use lib.ListN.{length, drop, drop-of-length-le}
 use lib.Seq.{drop-drop, drop-append-seam, drop-length}
 use Rattle.rules.specs.declared.Rule.{Rule}
@@ -21,7 +20,7 @@ use Rattle.text.specs.LineLaws.{line-is, line-stands, line-ahead}
 use Rattle.text.specs.LineReadLaws.{line-read, kind-read}
 use Rattle.parse.specs.Rules.{rulesAt, afterRules}
 use Rattle.parse.specs.RulesLaws.{no-rules}
-use Rattle.parse.specs.Readings.{readingsAt, afterPoints}
+use Rattle.parse.specs.Readings.{NodeReading, pointsAt, afterPoints}
 use Rattle.parse.specs.ReadingsLaws.{no-points}
 use Rattle.program_claims.specs.Texts.{ruleLine, ruleLines, RulesInRange}
 use Rattle.program_claims.specs.Texts.{pointLine, pointLines, PointsInRange, Begins}
@@ -120,40 +119,40 @@ newlines-rules (r ∷ rs) =
 -- ---- point lines, in the same way
 
 pub points-spans : (fuel : ℕ) (s : List ℕ) (at : ℕ)
-    → Spans s at (pointLines (readingsAt fuel s at)) (afterPoints fuel s at) × PointsInRange (readingsAt fuel s at)
-unfolding readingsAt afterPoints pointLines PointsInRange
+    → Spans s at (pointLines (pointsAt fuel s at)) (afterPoints fuel s at) × PointsInRange (pointsAt fuel s at)
+unfolding pointsAt afterPoints pointLines PointsInRange
 points-spans zero s at = (spans-none s at, tt)
 points-spans (suc fuel) s at =
     point-or-none (lineAt s at)
-    (λ x next e.
-    let i = line-stands s at (Point x next) e tt in
+    (λ node x next e.
+    let i = line-stands s at (Point node x next) e tt in
     let r = points-spans fuel s next in
     rw e (spans-then (i .spans) (r .0), (i .range, r .1)))
     (λ n. let q = no-points (suc fuel) s at n in rw (q .0, q .1) (spans-none s at, tt))
 
-pub points-read : (fuel : ℕ) {s : List ℕ} {at end : ℕ} (xs : List ℤ) → length s ≤ at + fuel → PointsInRange xs
-    → Spans s at (pointLines xs) end → NotOf point (lineAt s end)
-    → (readingsAt fuel s at ≡ xs) × (afterPoints fuel s at ≡ end)
-unfolding pointLines PointsInRange readingsAt afterPoints
+pub points-read : (fuel : ℕ) {s : List ℕ} {at end : ℕ} (ps : List NodeReading) → length s ≤ at + fuel → PointsInRange ps
+    → Spans s at (pointLines ps) end → NotOf point (lineAt s end)
+    → (pointsAt fuel s at ≡ ps) × (afterPoints fuel s at ≡ end)
+unfolding pointLines PointsInRange pointsAt afterPoints
 points-read fuel {s} {at} {end} [] h i u n =
     let e : end ≡ at = omega (arith, u .end) in
     let r = no-points fuel s at (rw e at n) in
     (r .0, r .1 ∙ sym e)
-points-read zero {s} {at} {end} (x ∷ xs) h i u n =
-    let v = spans-front (bytesOf (pointLine x)) (pointLines xs) u in
-    let a = line-ahead (Point x _) (record { spans = v; range = i .0 }) in
+points-read zero {s} {at} {end} (p ∷ ps) h i u n =
+    let v = spans-front (bytesOf (pointLine p)) (pointLines ps) u in
+    let a = line-ahead (Point (p .node) (p .reading) _) (record { spans = v; range = i .0 }) in
     absurd (omega (arith, a))
-points-read (suc fuel) {s} {at} {end} (x ∷ xs) h i u n =
-    let v = spans-front (bytesOf (pointLine x)) (pointLines xs) u in
-    let w = spans-back (bytesOf (pointLine x)) (pointLines xs) u in
-    let l : LineIs s at (Point x _) = record { spans = v; range = i .0 } in
+points-read (suc fuel) {s} {at} {end} (p ∷ ps) h i u n =
+    let v = spans-front (bytesOf (pointLine p)) (pointLines ps) u in
+    let w = spans-back (bytesOf (pointLine p)) (pointLines ps) u in
+    let l : LineIs s at (Point (p .node) (p .reading) _) = record { spans = v; range = i .0 } in
     let e = line-read _ l in
-    let q = points-read fuel xs (omega (arith, line-ahead _ l)) (i .1) w n in
-    (rw e (ap (λ (l : List ℤ). x ∷ l) (q .0)), rw e (q .1))
+    let q = points-read fuel ps (omega (arith, line-ahead _ l)) (i .1) w n in
+    (rw e (ap (λ (l : List NodeReading). p ∷ l) (q .0)), rw e (q .1))
 
-pub newlines-points : (xs : List ℤ) → newlines (pointLines xs) ≡ length xs
+pub newlines-points : (ps : List NodeReading) → newlines (pointLines ps) ≡ length ps
 unfolding newlines pointLines
 newlines-points [] = refl
-newlines-points (x ∷ xs) =
-    let l = pointLine x in
-    omega (arith, newlines-append (bytesOf l) (pointLines xs), newlines-line l tt, newlines-points xs)
+newlines-points (p ∷ ps) =
+    let l = pointLine p in
+    omega (arith, newlines-append (bytesOf l) (pointLines ps), newlines-line l tt, newlines-points ps)

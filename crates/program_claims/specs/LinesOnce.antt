@@ -11,7 +11,7 @@ use Rattle.text.specs.Format.{fields}
 use Rattle.text.specs.Word.{newline as lf}
 use Rattle.print.specs.Field.{field}
 use Rattle.print.specs.Refused.{refusedWord, refusedLine}
-use Rattle.print.specs.Monitor.{quietWord, signalWord, quietLine, signalLine}
+use Rattle.print.specs.Monitor.{quietWord, signalWord, totalWord, quietLine, signalLine, totalLine}
 use Rattle.print.specs.RowLine.{standingsWord, arlWord, standingsLine, rowLine, arlLine}
 use Rattle.print.specs.PercentLine.{qWord, placeFields, percentLine}
 use Rattle.program_claims.specs.NumberOnce.{comma, newline, number-once, behind-once, fields-once}
@@ -44,13 +44,17 @@ refused-shape : (n p : ℕ) (xs : List ℕ) → refusedLine n p ++ xs ≡ refuse
 unfolding refusedLine field fields
 refused-shape n p xs = group2 refusedWord (field n) (field p) lf xs
 
-quiet-shape : (n : ℕ) (xs : List ℕ) → quietLine n ++ xs ≡ quietWord ++ (fields (n ∷ []) ++ (10 ∷ xs))
+pub quiet-shape : (node n : ℕ) (xs : List ℕ) → quietLine node n ++ xs ≡ quietWord ++ (fields (node ∷ n ∷ []) ++ (10 ∷ xs))
 unfolding quietLine field fields
-quiet-shape n xs = simp append-assoc
+quiet-shape node n xs = group2 quietWord (field node) (field n) lf xs
 
-signal-shape : (n m : ℕ) (xs : List ℕ) → signalLine n m ++ xs ≡ signalWord ++ (fields (n ∷ m ∷ []) ++ (10 ∷ xs))
+pub signal-shape : (node n m : ℕ) (xs : List ℕ) → signalLine node n m ++ xs ≡ signalWord ++ (fields (node ∷ n ∷ m ∷ []) ++ (10 ∷ xs))
 unfolding signalLine field fields
-signal-shape n m xs = group2 signalWord (field n) (field m) lf xs
+signal-shape node n m xs = group3 signalWord (field node) (field n) (field m) lf xs
+
+pub total-shape : (node n m : ℕ) (xs : List ℕ) → totalLine node n m ++ xs ≡ totalWord ++ (fields (node ∷ n ∷ m ∷ []) ++ (10 ∷ xs))
+unfolding totalLine field fields
+total-shape node n m xs = group3 totalWord (field node) (field n) (field m) lf xs
 
 -- ---- and what it determines
 
@@ -70,15 +74,20 @@ module _ {xs ys : List ℕ} where
       let o = line-once refusedWord _ _ _ _ (sym (refused-shape n p xs) ∙ e ∙ refused-shape n′ p′ ys) in
       (cc (o .0), cc (o .0), o .1)
 
-  pub quiet-once : (n n′ : ℕ) → quietLine n ++ xs ≡ quietLine n′ ++ ys → (n ≡ n′) × (xs ≡ ys)
-  quiet-once n n′ e =
-      let o = line-once quietWord _ _ _ _ (sym (quiet-shape n xs) ∙ e ∙ quiet-shape n′ ys) in
-      (cc (o .0), o .1)
-
-  pub signal-once : (n m n′ m′ : ℕ) → signalLine n m ++ xs ≡ signalLine n′ m′ ++ ys → (n ≡ n′) × (m ≡ m′) × (xs ≡ ys)
-  signal-once n m n′ m′ e =
-      let o = line-once signalWord _ _ _ _ (sym (signal-shape n m xs) ∙ e ∙ signal-shape n′ m′ ys) in
+  pub quiet-once : (k n k′ n′ : ℕ) → quietLine k n ++ xs ≡ quietLine k′ n′ ++ ys → (k ≡ k′) × (n ≡ n′) × (xs ≡ ys)
+  quiet-once k n k′ n′ e =
+      let o = line-once quietWord _ _ _ _ (sym (quiet-shape k n xs) ∙ e ∙ quiet-shape k′ n′ ys) in
       (cc (o .0), cc (o .0), o .1)
+
+  pub signal-once : (k n m k′ n′ m′ : ℕ) → signalLine k n m ++ xs ≡ signalLine k′ n′ m′ ++ ys → (k ≡ k′) × (n ≡ n′) × (m ≡ m′) × (xs ≡ ys)
+  signal-once k n m k′ n′ m′ e =
+      let o = line-once signalWord _ _ _ _ (sym (signal-shape k n m xs) ∙ e ∙ signal-shape k′ n′ m′ ys) in
+      (cc (o .0), cc (o .0), cc (o .0), o .1)
+
+  pub total-once : (k n m k′ n′ m′ : ℕ) → totalLine k n m ++ xs ≡ totalLine k′ n′ m′ ++ ys → (k ≡ k′) × (n ≡ n′) × (m ≡ m′) × (xs ≡ ys)
+  total-once k n m k′ n′ m′ e =
+      let o = line-once totalWord _ _ _ _ (sym (total-shape k n m xs) ∙ e ∙ total-shape k′ n′ m′ ys) in
+      (cc (o .0), cc (o .0), cc (o .0), o .1)
 
   -- the four numbers of a row
   pub row-once : (n a b c n′ a′ b′ c′ : ℕ) → rowLine n a b c ++ xs ≡ rowLine n′ a′ b′ c′ ++ ys → (n ≡ n′) × (a ≡ a′) × (b ≡ b′) × (c ≡ c′) × (xs ≡ ys)

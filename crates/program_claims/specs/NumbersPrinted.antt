@@ -8,7 +8,7 @@ use lib.Dec.{eqb}
 use borrow.Author.Tests.{eq-eqb}
 use Rattle.rules.specs.Numbers.{ruleNumbers, OneOf, here, there}
 use Rattle.rules.specs.Refusal.{badSigma, badState, badZone, badCount, shortList, badListLength, badStateCount, badPercent, badTotal, badLine, tooLong}
-use Rattle.rules.specs.Refusal.{badShift}
+use Rattle.rules.specs.Refusal.{badShift, badNode}
 use Rattle.print.specs.Refused.{refusedLine}
 use Rattle.report.specs.Printed.{printedBytes}
 use Rattle.report.specs.TableReport.{tablePrinted}
@@ -16,13 +16,13 @@ use Rattle.report.specs.MonitorReport.{monitorPrinted}
 use Rattle.report.specs.WeightsReport.{weightsPrinted}
 use Rattle.program_claims.specs.LinesOnce.{refused-once}
 use Rattle.program_claims.specs.Programs.{chartNumbers, TableRefusal, TableProgram, refuses, prints, too-long, bad-line, bad-table}
-use Rattle.program_claims.specs.Programs.{MonitorRefusal, MonitorProgram, bad-rules, bad-sigma}
+use Rattle.program_claims.specs.Programs.{MonitorRefusal, MonitorProgram, bad-node, bad-rules, bad-sigma}
 use Rattle.program_claims.specs.WeightsTexts.{WeightsRefusal, WeightsProgram, bad-shift}
 use Rattle.program_claims.specs.WeightsTexts.{refuses as weights-refuse, prints as weights-print, too-long as weights-too-long, bad-line as weights-bad-line}
 use Rattle.program_claims.specs.TableProgram.{table-program}
 use Rattle.program_claims.specs.MonitorProgram.{monitor-program}
 use Rattle.program_claims.specs.WeightsProgram.{weights-program, weights-not-refused}
-use Rattle.program_claims.specs.PrintedOnce.{table-not-refused, points-not-refused}
+use Rattle.program_claims.specs.PrintedOnce.{table-not-refused, bench-not-refused}
 
 -- whether n is among the numbers, and whether none of the first is among the second
 elem : ℕ → List ℕ → Bool
@@ -65,7 +65,7 @@ abbrev pub tableNumbers : List ℕ
 tableNumbers = tooLong .number ∷ badLine 0 .number ∷ chartNumbers
 
 abbrev pub monitorNumbers : List ℕ
-monitorNumbers = tooLong .number ∷ badLine 0 .number ∷ badSigma .number ∷ ruleNumbers
+monitorNumbers = tooLong .number ∷ badLine 0 .number ∷ badNode 0 .number ∷ badSigma .number ∷ ruleNumbers
 
 abbrev pub weightsNumbers : List ℕ
 weightsNumbers = tooLong .number ∷ badLine 0 .number ∷ badShift .number ∷ []
@@ -78,8 +78,9 @@ table-numbers (bad-table w rs h x is c o) = there (there o)
 monitor-numbers : {s : List ℕ} {n p : ℕ} → MonitorRefusal s n p → OneOf monitorNumbers n
 monitor-numbers (too-long l) = here refl
 monitor-numbers (bad-line front rest place l e st q) = there (here refl)
-monitor-numbers (bad-rules c d rs xs x is q o) = there (there (there o))
-monitor-numbers (bad-sigma c d rs xs is ok b) = there (there (here refl))
+monitor-numbers (bad-node c d rs place o) = there (there (here refl))
+monitor-numbers (bad-rules c d rs ps x is o q r) = there (there (there (there r)))
+monitor-numbers (bad-sigma c d rs ps is o ok b) = there (there (there (here refl)))
 
 weights-numbers : {s : List ℕ} {n p : ℕ} → WeightsRefusal s n p → OneOf weightsNumbers n
 weights-numbers (weights-too-long l) = here refl
@@ -106,7 +107,7 @@ monitor-refusals s n p e = go (monitor-program s)
   where
     go : MonitorProgram s (printedBytes (monitorPrinted s)) → OneOf monitorNumbers n
     go (refuses number place q r) = rw (refused-number n p number place (sym e ∙ q)) (monitor-numbers r)
-    go (prints c d rs xs is ok b t) = absurd (points-not-refused _ n p (t .said) (sym (t .lines) ∙ e))
+    go (prints c d rs ps is o ok b t) = absurd (bench-not-refused rs c d ps n p (sym (t .lines) ∙ e))
 
 pub monitor-never : (s : List ℕ) (n p : ℕ) → OneOf libraryNumbers n → printedBytes (monitorPrinted s) ≡ refusedLine n p → ⊥
 unfolding apart elem

@@ -19,18 +19,18 @@ use Rattle.print.specs.Monitor.{quietLine, signalLine, totalLine}
 use Rattle.print.specs.RowLine.{standingsLine, headerLine, rowLine, arlLine}
 use Rattle.print.specs.PercentLine.{percentLine}
 use Rattle.report.specs.Printed.{printedBytes}
-use Rattle.report.specs.Points.{zonesOf, answerLines, pointsBytes}
+use Rattle.parse.specs.Readings.{NodeReading, nodeCount, readingsOf}
+use Rattle.report.specs.Points.{zonesOf, NodeAnswer, nodeAnswer, NodeTotal, lastAnswer, benchAnswers, benchTotals, lineOf, answerLines, totalLines, benchBytes}
 use Rattle.report.specs.TableReport.{tablePrinted}
 use Rattle.report.specs.MonitorReport.{monitorPrinted}
-use Rattle.claims.specs.Exact.{freeAnswers}
 use Rattle.program_claims.specs.Texts.{TableTextIs, MonitorTextIs}
 use Rattle.program_claims.specs.NumberOnce.{comma, not-number, behind-once}
-use Rattle.program_claims.specs.LinesOnce.{row-shape, standings-once, arl-once, quiet-once, signal-once, row-once, percent-once}
+use Rattle.program_claims.specs.LinesOnce.{row-shape, standings-once, arl-once, quiet-once, signal-once, total-once, row-once, percent-once}
 use Rattle.program_claims.specs.Programs.{rows, fivePercents, EachPercent, Figures, figureLines, FiguresHold}
 use Rattle.program_claims.specs.Programs.{TableProgram, refuses, prints}
-use Rattle.program_claims.specs.Programs.{MonitorProgram}
+use Rattle.program_claims.specs.Programs.{plainChart, MonitorProgram}
 use Rattle.program_claims.specs.TableProgram.{table-program}
-use Rattle.program_claims.specs.MonitorProgram.{monitor-program}
+use Rattle.program_claims.specs.MonitorProgram.{free-said, monitor-program}
 
 -- ---- rows, from the first on
 
@@ -174,49 +174,119 @@ table-read-off s h g e = go (table-program s)
 
 -- ---- the monitor's lines
 
--- what an answer's line and those behind it begin with: `t` where there is no answer
-answers-once : (os bs : List Answer) (n m n′ m′ : ℕ) → EachAnswer Said os → EachAnswer Said bs
-    → answerLines os ++ totalLine n m ≡ answerLines bs ++ totalLine n′ m′ → os ≡ bs
-unfolding answerLines EachAnswer quietLine signalLine totalLine
-answers-once [] [] n m n′ m′ i j e = refl
-answers-once [] (refused x ∷ bs) n m n′ m′ i j e = absurd (j .0)
-answers-once [] (quiet x ∷ bs) n m n′ m′ i j e = let z : _≡_ {A = ℕ} 116 113 = ap (λ l. getD l 0 0) e in absurd (omega arith)
-answers-once [] (signal x y ∷ bs) n m n′ m′ i j e = let z : _≡_ {A = ℕ} 116 115 = ap (λ l. getD l 0 0) e in absurd (omega arith)
-answers-once (refused x ∷ os) bs n m n′ m′ i j e = absurd (i .0)
-answers-once (quiet x ∷ os) [] n m n′ m′ i j e = let z : _≡_ {A = ℕ} 113 116 = ap (λ l. getD l 0 0) e in absurd (omega arith)
-answers-once (quiet x ∷ os) (refused y ∷ bs) n m n′ m′ i j e = absurd (j .0)
-answers-once (quiet x ∷ os) (quiet y ∷ bs) n m n′ m′ i j e =
-    let o = quiet-once x y
-    (sym (append-assoc (quietLine x) (answerLines os) (totalLine n m)) ∙ e ∙ append-assoc (quietLine y) (answerLines bs) (totalLine n′ m′)) in
-    let r = answers-once os bs n m n′ m′ (i .1) (j .1) (o .1) in
-    cc (o .0)
-answers-once (quiet x ∷ os) (signal y z ∷ bs) n m n′ m′ i j e = let z : _≡_ {A = ℕ} 113 115 = ap (λ l. getD l 0 0) e in absurd (omega arith)
-answers-once (signal x y ∷ os) [] n m n′ m′ i j e = let z : _≡_ {A = ℕ} 115 116 = ap (λ l. getD l 0 0) e in absurd (omega arith)
-answers-once (signal x y ∷ os) (refused z ∷ bs) n m n′ m′ i j e = absurd (j .0)
-answers-once (signal x y ∷ os) (quiet z ∷ bs) n m n′ m′ i j e = let z : _≡_ {A = ℕ} 115 113 = ap (λ l. getD l 0 0) e in absurd (omega arith)
-answers-once (signal x y ∷ os) (signal x′ y′ ∷ bs) n m n′ m′ i j e =
-    let o = signal-once x y x′ y′
-    (sym (append-assoc (signalLine x y) (answerLines os) (totalLine n m)) ∙ e ∙ append-assoc (signalLine x′ y′) (answerLines bs) (totalLine n′ m′)) in
-    let r = answers-once os bs n m n′ m′ (i .1) (j .1) (o .2) in
-    cc (o .0, o .1)
+-- each answer is quiet or signal
+unfoldable pub EachSaid : List NodeAnswer → Type 0
+EachSaid [] = Unit {0}
+EachSaid (a ∷ rest) = Said (a .answer) × EachSaid rest
 
-pub points-once : (os bs : List Answer) → EachAnswer Said os → EachAnswer Said bs → pointsBytes os ≡ pointsBytes bs → os ≡ bs
-unfolding pointsBytes
-points-once os bs i j e = answers-once os bs _ _ _ _ i j e
+-- lines of answers begin with `q` or `s`, totals with `t`
+one-once : {xs ys : List ℕ} (k k′ : ℕ) (a b : Answer) → Said a → Said b → lineOf k a ++ xs ≡ lineOf k′ b ++ ys → (k ≡ k′) × (a ≡ b) × (xs ≡ ys)
+unfolding quietLine signalLine
+one-once k k′ (refused n) b i j e = absurd i
+one-once k k′ (quiet n) (refused m) i j e = absurd j
+one-once k k′ (quiet n) (quiet m) i j e = let o = quiet-once k n k′ m e in (o .0, ap quiet (o .1), o .2)
+one-once k k′ (quiet n) (signal m mask) i j e = let z : _≡_ {A = ℕ} 113 115 = ap (λ l. getD l 0 0) e in absurd (omega arith)
+one-once k k′ (signal n mask) (refused m) i j e = absurd j
+one-once k k′ (signal n mask) (quiet m) i j e = let z : _≡_ {A = ℕ} 115 113 = ap (λ l. getD l 0 0) e in absurd (omega arith)
+one-once k k′ (signal n mask) (signal m mask′) i j e = let o = signal-once k n mask k′ m mask′ e in (o .0, cc (o .1, o .2), o .3)
 
-pub points-not-refused : (os : List Answer) (n p : ℕ) → EachAnswer Said os → pointsBytes os ≡ refusedLine n p → ⊥
-unfolding pointsBytes answerLines EachAnswer quietLine signalLine totalLine refusedLine
-points-not-refused [] n p i e = let z : _≡_ {A = ℕ} 116 114 = ap (λ l. getD l 0 0) e in omega arith
-points-not-refused (refused x ∷ os) n p i e = i .0
-points-not-refused (quiet x ∷ os) n p i e = let z : _≡_ {A = ℕ} 113 114 = ap (λ l. getD l 0 0) e in omega arith
-points-not-refused (signal x y ∷ os) n p i e = let z : _≡_ {A = ℕ} 115 114 = ap (λ l. getD l 0 0) e in omega arith
+no-total : (xs : List ℕ) (k : ℕ) (a : Answer) → Said a → (ts : List NodeTotal) → lineOf k a ++ xs ≡ totalLines ts → ⊥
+unfolding quietLine signalLine totalLine totalLines
+no-total xs k (refused n) i ts e = i
+no-total xs k (quiet n) i [] e = let z : _≡_ {A = ℕ} 113 0 = ap (λ l. getD l 0 0) e in omega arith
+no-total xs k (quiet n) i (t ∷ ts) e = let z : _≡_ {A = ℕ} 113 116 = ap (λ l. getD l 0 0) e in omega arith
+no-total xs k (signal n mask) i [] e = let z : _≡_ {A = ℕ} 115 0 = ap (λ l. getD l 0 0) e in omega arith
+no-total xs k (signal n mask) i (t ∷ ts) e = let z : _≡_ {A = ℕ} 115 116 = ap (λ l. getD l 0 0) e in omega arith
 
--- Whoever reads the monitor program's output as the lines of any answers reads the plain chart's, for the readings whose lines the text has.
-pub monitor-read-off : (s : List ℕ) (os : List Answer) → EachAnswer Said os → printedBytes (monitorPrinted s) ≡ pointsBytes os
-    → (centre : ℤ) × (sigma : ℕ) × (rs : List Rule) × (xs : List ℤ) × MonitorTextIs s centre sigma rs xs × (os ≡ freeAnswers rs [] (zonesOf centre sigma xs))
-monitor-read-off s os i e = go (monitor-program s)
+same-total : (t u : NodeTotal) → t .node ≡ u .node → t .points ≡ u .points → t .signals ≡ u .signals → t ≡ u
+same-total t u a b c = same (t .node) (t .points) (t .signals) (u .node) (u .points) (u .signals) a b c
+  where
+    same : (k n m k′ n′ m′ : ℕ) → k ≡ k′ → n ≡ n′ → m ≡ m′ → _≡_ {A = NodeTotal} (record { node = k; points = n; signals = m }) (record { node = k′; points = n′; signals = m′ })
+    same k n m k′ n′ m′ a b c = rw (a, b, c)
+
+same-answer : (a b : NodeAnswer) → a .node ≡ b .node → a .answer ≡ b .answer → a ≡ b
+same-answer a b = same (a .node) (b .node) (a .answer) (b .answer)
+  where
+    same : (k k′ : ℕ) (x y : Answer) → k ≡ k′ → x ≡ y → nodeAnswer k x ≡ nodeAnswer k′ y
+    same k k′ x y e f = rw (e, f)
+
+totals-once : (ts us : List NodeTotal) → totalLines ts ≡ totalLines us → ts ≡ us
+unfolding totalLines totalLine
+totals-once [] [] e = refl
+totals-once [] (u ∷ us) e = let z : _≡_ {A = ℕ} 0 116 = ap (λ l. getD l 0 0) e in absurd (omega arith)
+totals-once (t ∷ ts) [] e = let z : _≡_ {A = ℕ} 116 0 = ap (λ l. getD l 0 0) e in absurd (omega arith)
+totals-once (t ∷ ts) (u ∷ us) e =
+    let o = total-once (t .node) (t .points) (t .signals) (u .node) (u .points) (u .signals) e in
+    let one = same-total t u (o .0) (o .1) (o .2) in
+    let rest = totals-once ts us (o .3) in
+    cc (one, rest)
+
+answers-once : (os bs : List NodeAnswer) (ts us : List NodeTotal) → EachSaid os → EachSaid bs
+    → answerLines os ++ totalLines ts ≡ answerLines bs ++ totalLines us → (os ≡ bs) × (ts ≡ us)
+unfolding answerLines EachSaid
+answers-once [] [] ts us i j e = (refl, totals-once ts us e)
+answers-once [] (b ∷ bs) ts us i j e =
+    absurd (no-total _ (b .node) (b .answer) (j .0) ts (sym (append-assoc (lineOf (b .node) (b .answer)) (answerLines bs) (totalLines us)) ∙ sym e))
+answers-once (a ∷ os) [] ts us i j e =
+    absurd (no-total _ (a .node) (a .answer) (i .0) us (sym (append-assoc (lineOf (a .node) (a .answer)) (answerLines os) (totalLines ts)) ∙ e))
+answers-once (a ∷ os) (b ∷ bs) ts us i j e =
+    let o = one-once (a .node) (b .node) (a .answer) (b .answer) (i .0) (j .0)
+    (sym (append-assoc (lineOf (a .node) (a .answer)) (answerLines os) (totalLines ts)) ∙ e ∙ append-assoc (lineOf (b .node) (b .answer)) (answerLines bs) (totalLines us)) in
+    let r = answers-once os bs ts us (i .1) (j .1) (o .2) in
+    let one = same-answer a b (o .0) (o .1) in
+    let rest = r .0 in
+    (cc (one, rest), r .1)
+
+-- what a chart says to the points of a bench, where it refuses none
+last-said : (node : ℕ) (answers : List Answer) → EachAnswer Said answers → EachSaid (lastAnswer node answers)
+unfolding EachAnswer EachSaid lastAnswer
+last-said node [] i = tt
+last-said node (a ∷ []) i = (i .0, tt)
+last-said node (a ∷ b ∷ rest) i = last-said node (b ∷ rest) (i .1)
+
+said-append : (xs ys : List NodeAnswer) → EachSaid xs → EachSaid ys → EachSaid (xs ++ ys)
+unfolding EachSaid
+said-append [] ys i j = j
+said-append (a ∷ xs) ys i j = (i .0, said-append xs ys (i .1) j)
+
+bench-said : (chart : List ℤ → List Answer) → ((xs : List ℤ) → EachAnswer Said (chart xs)) → (before ps : List NodeReading) → EachSaid (benchAnswers chart before ps)
+unfolding EachSaid benchAnswers
+bench-said chart f before [] = tt
+bench-said chart f before (p ∷ ps) =
+    let xs = readingsOf (p .node) (before ++ (p ∷ [])) in
+    said-append (lastAnswer (p .node) (chart xs)) (benchAnswers chart (before ++ (p ∷ [])) ps) (last-said (p .node) (chart xs) (f xs))
+    (bench-said chart f (before ++ (p ∷ [])) ps)
+
+pub plain-said : (rs : List Rule) (centre : ℤ) (sigma : ℕ) (ps : List NodeReading) → EachSaid (benchAnswers (plainChart rs centre sigma) [] ps)
+plain-said rs centre sigma ps = bench-said (plainChart rs centre sigma) (λ xs. free-said rs (zonesOf centre sigma xs) []) [] ps
+
+lines-not-refused : (os : List NodeAnswer) (ts : List NodeTotal) (n p : ℕ) → EachSaid os → answerLines os ++ totalLines ts ≡ refusedLine n p → ⊥
+unfolding answerLines EachSaid quietLine signalLine refusedLine totalLines totalLine
+lines-not-refused [] [] n p i e = let z : _≡_ {A = ℕ} 0 114 = ap (λ l. getD l 0 0) e in omega arith
+lines-not-refused [] (t ∷ ts) n p i e = let z : _≡_ {A = ℕ} 116 114 = ap (λ l. getD l 0 0) e in omega arith
+lines-not-refused (a ∷ os) ts n p i e = go _ (a .node) (a .answer) (i .0) (sym (append-assoc (lineOf (a .node) (a .answer)) (answerLines os) (totalLines ts)) ∙ e)
+  where
+    go : (xs : List ℕ) (k : ℕ) (b : Answer) → Said b → lineOf k b ++ xs ≡ refusedLine n p → ⊥
+    go xs k (refused m) i e = i
+    go xs k (quiet m) i e = let z : _≡_ {A = ℕ} 113 114 = ap (λ l. getD l 0 0) e in omega arith
+    go xs k (signal m mask) i e = let z : _≡_ {A = ℕ} 115 114 = ap (λ l. getD l 0 0) e in omega arith
+
+pub bench-not-refused : (rs : List Rule) (centre : ℤ) (sigma : ℕ) (ps : List NodeReading) (n p : ℕ) → benchBytes (plainChart rs centre sigma) ps ≡ refusedLine n p → ⊥
+unfolding benchBytes
+bench-not-refused rs centre sigma ps n p e = lines-not-refused _ _ n p (plain-said rs centre sigma ps) e
+
+-- Whoever reads the monitor program's output as the lines of any answers and any totals, each with a node, reads those of each node's plain chart,
+-- for the points whose lines the text has.
+pub monitor-read-off : (s : List ℕ) (os : List NodeAnswer) (ts : List NodeTotal) → EachSaid os → printedBytes (monitorPrinted s) ≡ answerLines os ++ totalLines ts
+    → (centre : ℤ) × (sigma : ℕ) × (rs : List Rule) × (ps : List NodeReading) × MonitorTextIs s centre sigma rs ps
+    × (os ≡ benchAnswers (plainChart rs centre sigma) [] ps) × (ts ≡ benchTotals (plainChart rs centre sigma) ps nodeCount)
+unfolding benchBytes
+monitor-read-off s os ts i e = go (monitor-program s)
   where
     go : MonitorProgram s (printedBytes (monitorPrinted s))
-        → (centre : ℤ) × (sigma : ℕ) × (rs : List Rule) × (xs : List ℤ) × MonitorTextIs s centre sigma rs xs × (os ≡ freeAnswers rs [] (zonesOf centre sigma xs))
-    go (refuses number place q r) = absurd (points-not-refused os number place i (sym e ∙ q))
-    go (prints c d rs xs is ok b t) = (c, d, rs, xs, is, points-once os _ i (t .said) (sym e ∙ t .lines))
+        → (centre : ℤ) × (sigma : ℕ) × (rs : List Rule) × (ps : List NodeReading) × MonitorTextIs s centre sigma rs ps
+        × (os ≡ benchAnswers (plainChart rs centre sigma) [] ps) × (ts ≡ benchTotals (plainChart rs centre sigma) ps nodeCount)
+    go (refuses number place q r) = absurd (lines-not-refused os ts number place i (sym e ∙ q))
+    go (prints c d rs ps is o ok b t) =
+        let r = answers-once os _ ts _ i (plain-said rs c d ps) (sym e ∙ t .lines) in
+        (c, d, rs, ps, is, r .0, r .1)

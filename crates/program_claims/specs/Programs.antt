@@ -7,23 +7,24 @@ use lib.ListN.{length}
 use Rattle.rules.specs.declared.Rule.{Rule}
 use Rattle.rules.specs.declared.refusal.Refusal.{Refusal}
 use Rattle.rules.specs.declared.Checked.the-variants.{Accepted, Refused}
-use Rattle.rules.specs.Refusal.{badSigma, badRuleCount, badRuleBounds, badZoneSet, badWeights, badHorizon, tooManyStates, badLine, tooLong}
+use Rattle.rules.specs.Refusal.{badSigma, badRuleCount, badRuleBounds, badZoneSet, badWeights, badHorizon, tooManyStates, badLine, tooLong, badNode}
 use Rattle.rules.specs.Check.{checkOf}
 use Rattle.rules.specs.Numbers.{OneOf, ruleNumbers}
 use Rattle.monitor.specs.Zone.{minSigma, maxSigma}
-use Rattle.monitor.specs.ReferenceChart.{chartAnswers}
+use Rattle.monitor.specs.ReferenceChart.{Answer, chartAnswers}
 use Rattle.monitor.specs.Calls.{Said, EachAnswer}
 use Rattle.rules.specs.declared.weights.ZoneWeights.{ZoneWeights}
 use Rattle.rules.specs.Weights.{weightList}
 use Rattle.text.specs.Size.{maxText}
 use Rattle.text.specs.Word.{newlines}
 use Rattle.parse.specs.Rules.{ruleListOf}
+use Rattle.parse.specs.Readings.{NodeReading, OnBench, readingsOf}
 use Rattle.print.specs.Refused.{refusedLine}
 use Rattle.print.specs.RowLine.{standingsLine, headerLine, rowLine, arlLine}
 use Rattle.print.specs.PercentLine.{percentLine}
 use Rattle.print.specs.TableLines.{maxRows}
 use Rattle.report.specs.TableReport.{reportHorizon}
-use Rattle.report.specs.Points.{zonesOf, pointsBytes}
+use Rattle.report.specs.Points.{zonesOf, benchBytes}
 use Rattle.runlength.specs.Scale.{weightTotal, unitsPerOne}
 use Rattle.runlength.specs.Chain.{pmf, cdf, survival, restrictedMean}
 use Rattle.table.specs.TableChain.{stateCount, tableChain}
@@ -31,7 +32,7 @@ use Rattle.table.specs.Table.{chartCheck}
 use Rattle.bracket.specs.declared.Place.{Place}
 use Rattle.bracket.specs.Contains.{PlaceContains}
 use Rattle.claims.specs.Exact.{freeAnswers, exactSum, exactMean, reached}
-use Rattle.program_claims.specs.Texts.{TableTextIs, TableStops, MonitorTextIs, MonitorStops}
+use Rattle.program_claims.specs.Texts.{TableTextIs, TableStops, MonitorTextIs, OffBench, MonitorStops}
 
 -- the numbers that a chart is refused by: 2, 3, 4; 8; 9; 10
 abbrev pub chartNumbers : List ℕ
@@ -113,24 +114,30 @@ pub data TableProgram (s : List ℕ) (printed : List ℕ) : Type 0 where
 
 -- ---- the monitor program
 
--- The printed bytes are a line for each reading and the total, by what the plain chart says, reading by reading, from an empty row.
-pub record MonitorPrints (centre : ℤ) (sigma : ℕ) (rs : List Rule) (xs : List ℤ) (printed : List ℕ) : Type 0 where
-  pub lines : printed ≡ pointsBytes (freeAnswers rs [] (zonesOf centre sigma xs))
-  -- the same by the chart that can refuse: it refuses none of these readings
-  pub chart : chartAnswers rs [] (zonesOf centre sigma xs) ≡ freeAnswers rs [] (zonesOf centre sigma xs)
-  pub said : EachAnswer Said (freeAnswers rs [] (zonesOf centre sigma xs))
+-- the plain chart on the zones of readings: what it answers to them, one by one, from an empty row
+abbrev pub plainChart : List Rule → ℤ → ℕ → List ℤ → List Answer
+plainChart rs centre sigma xs = freeAnswers rs [] (zonesOf centre sigma xs)
+
+-- The printed bytes are a line for each point and a total for each node that has points, by what the plain chart of each node says of that node's
+-- readings.
+pub record MonitorPrints (centre : ℤ) (sigma : ℕ) (rs : List Rule) (ps : List NodeReading) (printed : List ℕ) : Type 0 where
+  pub lines : printed ≡ benchBytes (plainChart rs centre sigma) ps
+  -- the same by the chart that can refuse: it refuses none of a node's readings
+  pub chart : (node : ℕ) → chartAnswers rs [] (zonesOf centre sigma (readingsOf node ps)) ≡ plainChart rs centre sigma (readingsOf node ps)
+  pub said : (node : ℕ) → EachAnswer Said (plainChart rs centre sigma (readingsOf node ps))
 
 pub data MonitorRefusal (s : List ℕ) : ℕ → ℕ → Type 0 where
   too-long : maxText < length s → MonitorRefusal s (tooLong .number) 0
   bad-line : (front rest : List ℕ) (place : ℕ) → length s ≤ maxText → s ≡ front ++ rest → MonitorStops front rest → place ≡ 1 + newlines front
       → MonitorRefusal s (badLine place .number) place
-  bad-rules : (centre : ℤ) (sigma : ℕ) (rs : List Rule) (xs : List ℤ) (x : Refusal) → MonitorTextIs s centre sigma rs xs
+  bad-node : (centre : ℤ) (sigma : ℕ) (rs : List Rule) (place : ℕ) → OffBench s centre sigma rs place → MonitorRefusal s (badNode place .number) place
+  bad-rules : (centre : ℤ) (sigma : ℕ) (rs : List Rule) (ps : List NodeReading) (x : Refusal) → MonitorTextIs s centre sigma rs ps → OnBench ps
       → checkOf (ruleListOf rs) ≡ Refused x → OneOf ruleNumbers (x .number) → MonitorRefusal s (x .number) (x .place)
-  bad-sigma : (centre : ℤ) (sigma : ℕ) (rs : List Rule) (xs : List ℤ) → MonitorTextIs s centre sigma rs xs
+  bad-sigma : (centre : ℤ) (sigma : ℕ) (rs : List Rule) (ps : List NodeReading) → MonitorTextIs s centre sigma rs ps → OnBench ps
       → checkOf (ruleListOf rs) ≡ Accepted → ((minSigma ≤ sigma) × (sigma ≤ maxSigma) → ⊥) → MonitorRefusal s (badSigma .number) 0
 
 pub data MonitorProgram (s : List ℕ) (printed : List ℕ) : Type 0 where
   refuses : (number place : ℕ) → printed ≡ refusedLine number place → MonitorRefusal s number place → MonitorProgram s printed
-  prints : (centre : ℤ) (sigma : ℕ) (rs : List Rule) (xs : List ℤ) → MonitorTextIs s centre sigma rs xs
+  prints : (centre : ℤ) (sigma : ℕ) (rs : List Rule) (ps : List NodeReading) → MonitorTextIs s centre sigma rs ps → OnBench ps
       → checkOf (ruleListOf rs) ≡ Accepted → (minSigma ≤ sigma) × (sigma ≤ maxSigma)
-      → MonitorPrints centre sigma rs xs printed → MonitorProgram s printed
+      → MonitorPrints centre sigma rs ps printed → MonitorProgram s printed

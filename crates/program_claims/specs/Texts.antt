@@ -13,8 +13,9 @@ use Rattle.text.specs.Kind.{Kind, weights, rule, horizon, chart, point, kindOf}
 use Rattle.text.specs.Format.{bytesOf, InRange}
 use Rattle.parse.specs.declared.tables.TableText.{TableText}
 use Rattle.parse.specs.declared.monitors.MonitorText.{MonitorText}
-use Rattle.rules.specs.Refusal.{badLine, tooLong}
+use Rattle.rules.specs.Refusal.{badLine, tooLong, badNode}
 use Rattle.text.specs.Size.{maxText}
+use Rattle.parse.specs.Readings.{NodeReading, nodeCount, OnBench}
 use Rattle.parse.specs.TableText.{refusedTable, readTable}
 use Rattle.parse.specs.MonitorText.{refusedMonitor, readMonitor}
 
@@ -32,26 +33,26 @@ horizonLine h = Horizon h 0
 abbrev pub chartLine : ℤ → ℕ → Line
 chartLine centre sigma = Chart centre sigma 0
 
-abbrev pub pointLine : ℤ → Line
-pointLine x = Point x 0
+abbrev pub pointLine : NodeReading → Line
+pointLine p = Point (p .node) (p .reading) 0
 
--- the rule lines of rules, and the point lines of readings, one behind the other
+-- the rule lines of rules, and the point lines of points, one behind the other
 unfoldable pub ruleLines : List Rule → List ℕ
 ruleLines [] = []
 ruleLines (r ∷ rs) = bytesOf (ruleLine r) ++ ruleLines rs
 
-unfoldable pub pointLines : List ℤ → List ℕ
+unfoldable pub pointLines : List NodeReading → List ℕ
 pointLines [] = []
-pointLines (x ∷ xs) = bytesOf (pointLine x) ++ pointLines xs
+pointLines (p ∷ ps) = bytesOf (pointLine p) ++ pointLines ps
 
 -- every number within 32 bits
 unfoldable pub RulesInRange : List Rule → Type 0
 RulesInRange [] = Unit {0}
 RulesInRange (r ∷ rs) = InRange (ruleLine r) × RulesInRange rs
 
-unfoldable pub PointsInRange : List ℤ → Type 0
+unfoldable pub PointsInRange : List NodeReading → Type 0
 PointsInRange [] = Unit {0}
-PointsInRange (x ∷ xs) = InRange (pointLine x) × PointsInRange xs
+PointsInRange (p ∷ ps) = InRange (pointLine p) × PointsInRange ps
 
 -- ---- whole texts
 
@@ -63,13 +64,24 @@ pub record TableTextIs (s : List ℕ) (w : ZoneWeights) (rs : List Rule) (h : �
   pub rules-range : RulesInRange rs
   pub horizon-range : InRange (horizonLine h)
 
--- s is the monitor text of this chart, these rules and these readings
-pub record MonitorTextIs (s : List ℕ) (centre : ℤ) (sigma : ℕ) (rs : List Rule) (xs : List ℤ) : Type 0 where
-  pub bytes : s ≡ bytesOf (chartLine centre sigma) ++ ruleLines rs ++ pointLines xs
+-- s is the monitor text of this chart, these rules and these points, whatever their nodes
+pub record MonitorTextIs (s : List ℕ) (centre : ℤ) (sigma : ℕ) (rs : List Rule) (ps : List NodeReading) : Type 0 where
+  pub bytes : s ≡ bytesOf (chartLine centre sigma) ++ ruleLines rs ++ pointLines ps
   pub short : length s ≤ maxText
   pub chart-range : InRange (chartLine centre sigma)
   pub rules-range : RulesInRange rs
-  pub points-range : PointsInRange xs
+  pub points-range : PointsInRange ps
+
+-- and one of the points has a node that is none of the bench's: the first such point is the line `place`, from 1, which is one more than the
+-- LFs before it
+pub record OffBench (s : List ℕ) (centre : ℤ) (sigma : ℕ) (rs : List Rule) (place : ℕ) : Type 0 where
+  pub before : List NodeReading
+  pub point : NodeReading
+  pub after : List NodeReading
+  pub text : MonitorTextIs s centre sigma rs (before ++ (point ∷ after))
+  pub good : OnBench before
+  pub bad : nodeCount ≤ point .node
+  pub line : place ≡ 1 + newlines (bytesOf (chartLine centre sigma) ++ ruleLines rs ++ pointLines before)
 
 -- ---- where a text goes wrong
 
@@ -92,11 +104,12 @@ pub data TableStops : List ℕ → List ℕ → Type 0 where
 -- the same of a monitor text; a rule can come next only where there are no points yet
 pub data MonitorStops : List ℕ → List ℕ → Type 0 where
   no-chart : {rest : List ℕ} → (Begins chart rest → ⊥) → MonitorStops [] rest
-  no-point : {rest : List ℕ} (centre : ℤ) (sigma : ℕ) (rs : List Rule) (xs : List ℤ) → InRange (chartLine centre sigma) → RulesInRange rs → PointsInRange xs
-      → (rest ≡ [] → ⊥) → (xs ≡ [] → Begins rule rest → ⊥) → (Begins point rest → ⊥)
-      → MonitorStops (bytesOf (chartLine centre sigma) ++ ruleLines rs ++ pointLines xs) rest
+  no-point : {rest : List ℕ} (centre : ℤ) (sigma : ℕ) (rs : List Rule) (ps : List NodeReading) → InRange (chartLine centre sigma) → RulesInRange rs → PointsInRange ps
+      → (rest ≡ [] → ⊥) → (ps ≡ [] → Begins rule rest → ⊥) → (Begins point rest → ⊥)
+      → MonitorStops (bytesOf (chartLine centre sigma) ++ ruleLines rs ++ pointLines ps) rest
 
--- ---- what is read of a text: 17; or 16, at the place of the line where it goes wrong, from 1, which is one more than the LFs before it; or all of it
+-- ---- what is read of a text: 17; or 16, at the place of the line where it goes wrong, from 1, which is one more than the LFs before it; of a
+-- monitor text then 19; or all of it
 
 pub data TableReading (s : List ℕ) : TableText → Type 0 where
   too-long : maxText < length s → TableReading s (refusedTable tooLong)
@@ -108,5 +121,6 @@ pub data MonitorReading (s : List ℕ) : MonitorText → Type 0 where
   too-long : maxText < length s → MonitorReading s (refusedMonitor tooLong)
   stopped : (front rest : List ℕ) (place : ℕ) → length s ≤ maxText → s ≡ front ++ rest → MonitorStops front rest → place ≡ 1 + newlines front
       → MonitorReading s (refusedMonitor (badLine place))
-  read : (centre : ℤ) (sigma : ℕ) (rs : List Rule) (at : ℕ) (xs : List ℤ) → MonitorTextIs s centre sigma rs xs
-      → at ≡ length (bytesOf (chartLine centre sigma) ++ ruleLines rs) → MonitorReading s (readMonitor centre sigma rs at xs)
+  off-bench : (centre : ℤ) (sigma : ℕ) (rs : List Rule) (place : ℕ) → OffBench s centre sigma rs place → MonitorReading s (refusedMonitor (badNode place))
+  read : (centre : ℤ) (sigma : ℕ) (rs : List Rule) (at : ℕ) (ps : List NodeReading) → MonitorTextIs s centre sigma rs ps → OnBench ps
+      → at ≡ length (bytesOf (chartLine centre sigma) ++ ruleLines rs) → MonitorReading s (readMonitor centre sigma rs at ps)

@@ -4,7 +4,11 @@ pub mod PrintedLaws
 pub mod TableReport
 pub mod TableReportLaws
 pub mod Points
-pub mod PointsWritten
+pub mod ZonesLaws
+pub mod Nodes
+pub mod NodesLaws
+pub mod TotalsWritten
+pub mod BenchWritten
 pub mod PointsLaws
 pub mod MonitorReport
 pub mod MonitorReportLaws

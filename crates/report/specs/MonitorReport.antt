@@ -12,23 +12,23 @@ use Rattle.monitor.specs.Step.{freshMonitor}
 use Rattle.monitor.specs.ReferenceChart.{Answer}
 use Rattle.monitor.specs.Calls.{monitorAnswers}
 use Rattle.parse.specs.declared.monitors.MonitorText.{MonitorText}
-use Rattle.parse.specs.MonitorText.{monitorText, monitorReadings}
+use Rattle.parse.specs.MonitorText.{monitorText, monitorPoints}
 use Rattle.report.specs.Printed.{Printed, printedBy}
-use Rattle.report.specs.Points.{zonesOf, pointsBytes}
+use Rattle.report.specs.Points.{zonesOf, benchBytes}
 
--- what a fresh monitor answers to the readings, one after another
+-- the chart of one node: what a fresh monitor answers to the readings, one after another
 abbrev pub readingAnswers : RuleList → ℤ → ℕ → List ℤ → List Answer
 readingAnswers l centre sigma xs = monitorAnswers l freshMonitor (zonesOf centre sigma xs)
 
--- the refusals in their order: the text's, 17 or 16; the rules', 2, 3, 4; then 1
+-- the refusals in their order: the text's, 17, 16 or 19; the rules', 2, 3, 4; then 1
 abbrev pub monitorCheck : MonitorText → Checked
 monitorCheck t =
     orElse (unless (eqb (t .refusal .number) 0) (t .refusal))
     (orElse (checkOf (t .list))
     (unless (within minSigma maxSigma (t .sigma)) badSigma))
 
--- what was read: a refusal, or its readings on its chart
+-- what was read: a refusal, or its points, each on the chart of its node
 unfoldable pub monitorPrinted : List ℕ → Printed
 monitorPrinted s =
     let t = monitorText s in
-    printedBy (monitorCheck t) (pointsBytes (readingAnswers (t .list) (t .centre) (t .sigma) (monitorReadings s)))
+    printedBy (monitorCheck t) (benchBytes (readingAnswers (t .list) (t .centre) (t .sigma)) (monitorPoints s))

@@ -1,52 +1,49 @@
 -- What the monitor program prints, case by case; and that none of its points is refused.
-use Prim.Native.Nat.{ℕ, _*_, _≤_}
+use Prim.Native.Nat.{ℕ, zero, suc, _+_, _*_, _≤_}
 use mathlib.Core.Path.{_≡_, refl}
-use mathlib.Core.Bool.{Bool, true, false}
-use mathlib.Core.List.{List, [], _∷_}
+use mathlib.Core.Bool.{Bool, true, false, cond}
+use mathlib.Core.List.{List, [], _∷_, _++_}
 use native.Mathlib.Omega.{arith}
-use lib.IntN.{ℤ, _-ℤ_}
-use lib.ListN.{length}
-use lib.Dec.{leb}
-use borrow.Author.Tests.{leb-true, eq-eqb, ne-eqb}
+use lib.IntN.{ℤ}
+use lib.ListN.{length, length-append}
+use lib.Dec.{leb, ltb}
+use borrow.Author.Tests.{leb-true, ltb-false, eq-eqb, ne-eqb}
+use Rattle.rules.specs.declared.Rule.{Rule}
 use Rattle.rules.specs.declared.RuleList.{RuleList}
 use Rattle.rules.specs.declared.refusal.Refusal.{Refusal}
 use Rattle.rules.specs.declared.Checked.{Checked}
 use Rattle.rules.specs.declared.Checked.the-variants.{Accepted}
 use Rattle.rules.specs.Check.{activeRules, checkOf, within}
 use Rattle.rules.specs.CheckLaws.{accepted}
-use Rattle.rules.specs.Refusal.{badSigma}
+use Rattle.rules.specs.Refusal.{badSigma, badLine, tooLong, badNode}
 use Rattle.monitor.specs.Zone.{minSigma, maxSigma}
-use Rattle.monitor.specs.ZoneLaws.{zone-exists}
 use Rattle.text.specs.Size.{maxText, minPoint}
-use Rattle.rules.specs.Bounds.{zoneCount, maxNumber}
+use Rattle.rules.specs.Bounds.{maxNumber}
 use Rattle.monitor.specs.Step.{freshMonitor}
+use Rattle.monitor.specs.ReferenceChart.{Answer}
 use Rattle.monitor.specs.Calls.{Said, EachAnswer}
-use Rattle.runlength.specs.Sequence.{AllBelow}
 use Rattle.monitor.specs.Agreement.{no-refused-call}
 use Rattle.monitor.specs.Take.{takenAnswers}
 use Rattle.monitor.specs.TakeLaws.{fresh-valid, taken-answers}
+use Rattle.text.specs.declared.lines.Line.{Line}
+use Rattle.text.specs.declared.lines.Line.the-variants.{Weights, Rule as RuleLine, Horizon, Chart, Point, Shift, Other}
+use Rattle.text.specs.Line.{lineAt}
+use Rattle.text.specs.OnLine.{onChart}
 use Rattle.text.specs.Wrote.{Wrote}
+use Rattle.parse.specs.Rules.{rulesAt, afterRules}
 use Rattle.parse.specs.declared.monitors.MonitorText.{MonitorText}
-use Rattle.parse.specs.Readings.{readingsAt}
-use Rattle.parse.specs.ReadingsLaws.{points-fit}
-use Rattle.parse.specs.MonitorText.{refusedMonitor, monitorText}
+use Rattle.parse.specs.Readings.{NodeReading, pointsAt, afterPoints, nodeCount, OnBench, benchPoints, readingsOf}
+use Rattle.parse.specs.ReadingsLaws.{points-fit, all-bench, readings-few}
+use Rattle.parse.specs.MonitorText.{refusedMonitor, readMonitor, monitorBy, monitorEnd, monitorText}
 use Rattle.report.specs.declared.ReportAnswer.the-variants.{Written, Refused}
 use Rattle.report.specs.Printed.{report, reportOf}
 use Rattle.report.specs.PrintedLaws.{as-written}
-use Rattle.report.specs.Points.{zonesOf, pointsBytes}
+use Rattle.report.specs.Points.{zonesOf, benchAnswers, benchTotals, benchBytes}
+use Rattle.report.specs.ZonesLaws.{zones-exist, zones-length}
+use Rattle.report.specs.Nodes.{takenChart}
 use Rattle.report.specs.MonitorReport.{readingAnswers, monitorPrinted}
 
 -- ---- the points' answers
-
-pub zones-exist : (centre : ℤ) (sigma : ℕ) (xs : List ℤ) → AllBelow zoneCount (zonesOf centre sigma xs)
-unfolding zonesOf AllBelow
-zones-exist centre sigma [] = tt
-zones-exist centre sigma (x ∷ xs) = (zone-exists (x -ℤ centre) sigma, zones-exist centre sigma xs)
-
-pub zones-length : (centre : ℤ) (sigma : ℕ) (xs : List ℤ) → length (zonesOf centre sigma xs) ≡ length xs
-unfolding zonesOf
-zones-length centre sigma [] = refl
-zones-length centre sigma (x ∷ xs) = omega (arith, zones-length centre sigma xs)
 
 module _ (l : RuleList) (a : checkOf l ≡ Accepted) (centre : ℤ) (sigma : ℕ) (xs : List ℤ) (few : length xs ≤ maxNumber) where
   -- with accepted rules no point is refused: each is quiet or a signal, and has a line
@@ -59,6 +56,26 @@ module _ (l : RuleList) (a : checkOf l ≡ Accepted) (centre : ℤ) (sigma : ℕ
       taken-answers l a freshMonitor (fresh-valid (activeRules l) (accepted l a .2)) (zonesOf centre sigma xs) (zones-exist centre sigma xs)
       (omega (arith, zones-length centre sigma xs))
 
+-- ---- charts that answer alike have the same lines
+
+module _ {chart chart′ : List ℤ → List Answer} {n : ℕ} (same : (xs : List ℤ) → length xs ≤ n → chart xs ≡ chart′ xs) where
+  bench-same : (before ps : List NodeReading) → length before + length ps ≤ n → benchAnswers chart before ps ≡ benchAnswers chart′ before ps
+  unfolding benchAnswers
+  bench-same before [] l = refl
+  bench-same before (p ∷ ps) l =
+      let more : length (before ++ (p ∷ [])) ≡ length before + 1 = length-append before (p ∷ []) in
+      let one = same (readingsOf (p .node) (before ++ (p ∷ []))) (omega (arith, readings-few (p .node) (before ++ (p ∷ [])))) in
+      rw (one, bench-same (before ++ (p ∷ [])) ps (omega arith))
+
+  totals-same : (ps : List NodeReading) → length ps ≤ n → (k : ℕ) → benchTotals chart ps k ≡ benchTotals chart′ ps k
+  unfolding benchTotals
+  totals-same ps l zero = refl
+  totals-same ps l (suc k) = rw (totals-same ps l k, same (readingsOf k ps) (omega (arith, readings-few k ps)))
+
+  pub bytes-same : (ps : List NodeReading) → length ps ≤ n → benchBytes chart ps ≡ benchBytes chart′ ps
+  unfolding benchBytes
+  bytes-same ps l = rw (bench-same [] ps (omega arith), totals-same ps l nodeCount)
+
 -- ---- the report of a text
 
 -- a text that is not refused is no longer than the most
@@ -69,6 +86,33 @@ read-short s z = go (leb (length s) maxText) refl
     go : (t : Bool) → leb (length s) maxText ≡ t → length s ≤ maxText
     go true e = leb-true (length s) maxText e
     go false e = let z′ = rw e at z in absurd (omega arith)
+
+-- and every node of it is one of the bench's
+read-bench : (s : List ℕ) → monitorText s .refusal .number ≡ 0 → OnBench (pointsAt (length s) s (monitorText s .points))
+unfolding monitorText monitorEnd monitorBy refusedMonitor readMonitor
+read-bench s z = go (leb (length s) maxText) z
+  where
+    ends : (c : ℤ) (d : ℕ) (rs : List Rule) (at : ℕ) → (a b : Bool) → ltb (benchPoints (pointsAt (length s) s at)) (length (pointsAt (length s) s at)) ≡ b
+        → (let t = cond a (cond b (refusedMonitor (badNode (2 + length rs + benchPoints (pointsAt (length s) s at)))) (readMonitor c d rs at (pointsAt (length s) s at)))
+        (refusedMonitor (badLine (2 + length rs + length (pointsAt (length s) s at)))) in t .refusal .number ≡ 0 → OnBench (pointsAt (length s) s (t .points)))
+    ends c d rs at true true e z = absurd (omega arith)
+    ends c d rs at true false e z = all-bench (pointsAt (length s) s at) (ltb-false _ _ e)
+    ends c d rs at false b e z = absurd (omega arith)
+
+    first : (l : Line) → (let t = onChart l (λ c d at. monitorEnd s c d (rulesAt (length s) s at) (afterRules (length s) s at)) (refusedMonitor (badLine 1)) in
+        t .refusal .number ≡ 0 → OnBench (pointsAt (length s) s (t .points)))
+    first (Chart c d at) z = ends c d (rulesAt (length s) s at) (afterRules (length s) s at) (leb (length s) (afterPoints (length s) s (afterRules (length s) s at))) _ refl z
+    first (Weights w next) z = absurd (omega arith)
+    first (RuleLine k m zones next) z = absurd (omega arith)
+    first (Horizon h next) z = absurd (omega arith)
+    first (Point node x next) z = absurd (omega arith)
+    first (Shift x next) z = absurd (omega arith)
+    first Other z = absurd (omega arith)
+
+    go : (b : Bool) → (let t = cond b (onChart (lineAt s 0) (λ c d at. monitorEnd s c d (rulesAt (length s) s at) (afterRules (length s) s at)) (refusedMonitor (badLine 1))) (refusedMonitor tooLong) in
+        t .refusal .number ≡ 0 → OnBench (pointsAt (length s) s (t .points)))
+    go true z = first (lineAt s 0) z
+    go false z = absurd (omega arith)
 
 module _ (s out : List ℕ) (t : MonitorText) (is : t ≡ monitorText s) where
   pub monitor-refused : (t .refusal .number ≡ 0 → ⊥) → report (Refused (t .refusal)) out ≡ reportOf (monitorPrinted s) out
@@ -89,15 +133,18 @@ module _ (s out : List ℕ) (t : MonitorText) (is : t ≡ monitorText s) where
         pub text-short : length s ≤ maxText
         text-short = read-short s (rw (← is) read)
 
-        pub points-few : minPoint * length (readingsAt (length s) s (t .points)) ≤ length s
+        pub points-bench : OnBench (pointsAt (length s) s (t .points))
+        points-bench = rw (← is) at (read-bench s (rw (← is) read))
+
+        pub points-few : minPoint * length (pointsAt (length s) s (t .points)) ≤ length s
         points-few = points-fit (length s) s (t .points)
 
         pub points-written : {centre : ℤ} → centre ≡ t .centre → (out′ : List ℕ) (r : ℕ)
-            → Wrote out 0 out′ r (pointsBytes (takenAnswers (activeRules (t .list)) freshMonitor (zonesOf centre (t .sigma) (readingsAt (length s) s (t .points)))))
+            → Wrote out 0 out′ r (benchBytes (takenChart (activeRules (t .list)) centre (t .sigma)) (pointsAt (length s) s (t .points)))
             → report (Written r) out′ ≡ reportOf (monitorPrinted s) out
         unfolding monitorPrinted
         points-written {centre} c out′ r w =
-            let xs : List ℤ = readingsAt (length s) s (t .points) in
-            let answers = taken-one-by-one (t .list) ok (t .centre) (t .sigma) xs (omega (arith, points-few, text-short)) in
+            let ps : List NodeReading = pointsAt (length s) s (t .points) in
+            let bytes = bytes-same {n = maxNumber} (λ xs l. taken-one-by-one (t .list) ok (t .centre) (t .sigma) xs l) ps (omega (arith, points-few, text-short)) in
             as-written {p = monitorPrinted s} out out′ r
-            (rw (← is, eq-eqb (t .refusal .number) 0 read, ok, fits, answers)) (rw c at w)
+            (rw (← is, eq-eqb (t .refusal .number) 0 read, ok, fits, bytes)) (rw c at w)

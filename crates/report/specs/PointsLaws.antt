@@ -1,102 +1,141 @@
--- Laws of the points' lines: one answer more, and the turns of the loop over the point lines.
-use Prim.Native.Nat.{ℕ, _+_, _≤_}
+-- Laws of the points' lines: one point more, and the turns of the loop over the point lines.
+use Prim.Native.Nat.{ℕ, zero, suc, _+_, _*_, _≤_, _<_}
 use mathlib.Core.Path.{_≡_, refl, sym, ap, _∙_}
 use mathlib.Core.Bool.{Bool, true, false, cond}
 use mathlib.Core.List.{List, [], _∷_, _++_, append-assoc, append-nil}
+use native.Mathlib.Decide.{ℕ-discrete}
 use native.Mathlib.Omega.{arith}
 use lib.Dec.{eqb}
-use lib.ListN.{length, length-append}
-use lib.IntN.{ℤ, _-ℤ_}
+use lib.ListN.{length, getD, set, replicate, length-append, length-set}
+use lib.Seq.{getD-set-same, getD-set-other}
+use lib.IntN.{ℤ, pos, negsuc, _-ℤ_}
+use mir.Val.{SFits}
+use mir.Syntax.{w32}
 use Rattle.rules.specs.declared.Rule.{Rule}
+use Rattle.rules.specs.Bounds.{maxNumber}
 use Rattle.rules.specs.InBounds.{AllInBounds}
-use Rattle.monitor.specs.declared.Monitor.{Monitor}
 use Rattle.monitor.specs.Zone.{zoneAt}
-use Rattle.monitor.specs.State.{stateMask, nextState}
-use Rattle.monitor.specs.Step.{monitorAt, freshMonitor}
-use Rattle.monitor.specs.declared.Taken.{Taken}
+use Rattle.monitor.specs.State.{validState}
+use Rattle.monitor.specs.Step.{freshMonitor}
 use Rattle.monitor.specs.ReferenceChart.{Answer, quiet, signal}
-use Rattle.monitor.specs.Take.{takenOf, maskAnswer, takenAnswers}
-use Rattle.monitor.specs.TakeLaws.{fresh-valid, taken-valid}
-use Rattle.monitor.specs.ZoneLaws.{zone-exists}
+use Rattle.monitor.specs.Take.{maskAnswer, takenAnswers}
 use Rattle.text.specs.declared.lines.Line.the-variants.{Point}
 use Rattle.text.specs.Line.{lineAt}
-use Rattle.text.specs.LineLaws.{point-ahead}
+use Rattle.text.specs.LineLaws.{line-stands, point-ahead}
+use Rattle.text.specs.Format.{InSigned}
 use Rattle.text.specs.Kind.{point, NotOf}
+use Rattle.text.specs.Size.{maxText}
 use Rattle.text.specs.Wrote.{Wrote}
 use Rattle.text.specs.WroteLaws.{wrote-nothing, wrote-length, then}
-use Rattle.parse.specs.Readings.{readingsAt}
-use Rattle.parse.specs.ReadingsLaws.{one-point, no-points}
-use Rattle.print.specs.Monitor.{quietLine, signalLine, pointLine, totalLine, pointRoom}
-use Rattle.report.specs.Points.{zonesOf, lineOf, answerLines, oneSignal, signalsIn, pointsBytes}
-use Rattle.report.specs.PointsWritten.{answersTo, PointsWritten}
+use Rattle.parse.specs.Readings.{NodeReading, nodeReading, pointsAt, nodeCount, OnBench, readingsOf}
+use Rattle.parse.specs.ReadingsLaws.{one-point, no-points, readings-append, reading-own, reading-other, readings-few}
+use Rattle.print.specs.Monitor.{quietLine, signalLine, pointLine, pointRoom}
+use Rattle.report.specs.declared.nodes.Node.{Node}
+use Rattle.report.specs.declared.nodes.NodePoint.{NodePoint}
+use Rattle.report.specs.Points.{zonesOf, NodeAnswer, nodeAnswer, lastAnswer, benchAnswers, signalsIn, benchTotals, lineOf, answerLines, totalLines, benchBytes}
+use Rattle.report.specs.Nodes.{freshNode, nodeTaken, takenChart, takenAfter, nodeAfter, totalOf, totalsOf}
+use Rattle.report.specs.NodesLaws.{answerAfter, answers-more, node-more, node-valid, node-small, node-total}
+use Rattle.report.specs.ZonesLaws.{zones-append, zones-exist, zones-length}
+use Rattle.report.specs.BenchWritten.{NodesAre, BenchWritten}
 
--- the zone of numbers that are equal to these
-pub zone-given : {x x′ centre centre′ : ℤ} → x′ ≡ x → centre′ ≡ centre → (sigma : ℕ) → zoneAt (x′ -ℤ centre′) sigma ≡ zoneAt (x -ℤ centre) sigma
-zone-given ex ec sigma = rw (ex, ec)
+-- ---- one point more
 
--- ---- one answer more
+pub last-more : (node : ℕ) (answers : List Answer) (a : Answer) → lastAnswer node (answers ++ (a ∷ [])) ≡ nodeAnswer node a ∷ []
+unfolding lastAnswer
+last-more node [] a = refl
+last-more node (x ∷ []) a = refl
+last-more node (x ∷ y ∷ rest) a = last-more node (y ∷ rest) a
 
-lines-more : (answers : List Answer) (a : Answer) → answerLines (answers ++ (a ∷ [])) ≡ answerLines answers ++ lineOf a
+pub bench-more : (chart : List ℤ → List Answer) (before ps : List NodeReading) (p : NodeReading)
+    → benchAnswers chart before (ps ++ (p ∷ [])) ≡ benchAnswers chart before ps ++ lastAnswer (p .node) (chart (readingsOf (p .node) (before ++ (ps ++ (p ∷ [])))))
+unfolding benchAnswers
+bench-more chart before [] p = append-nil _
+bench-more chart before (q ∷ ps) p =
+    let one = lastAnswer (q .node) (chart (readingsOf (q .node) (before ++ (q ∷ [])))) in
+    let r = bench-more chart (before ++ (q ∷ [])) ps p in
+    let e : (before ++ (q ∷ [])) ++ (ps ++ (p ∷ [])) ≡ before ++ (q ∷ (ps ++ (p ∷ []))) = append-assoc before (q ∷ []) (ps ++ (p ∷ [])) in
+    ap (λ (l : List NodeAnswer). one ++ l) (rw e at r) ∙ sym (append-assoc one _ _)
+
+pub lines-append : (xs ys : List NodeAnswer) → answerLines (xs ++ ys) ≡ answerLines xs ++ answerLines ys
 unfolding answerLines
-lines-more [] a = append-nil (lineOf a)
-lines-more (x ∷ rest) a = ap (λ (t : List ℕ). lineOf x ++ t) (lines-more rest a) ∙ sym (append-assoc (lineOf x) (answerLines rest) (lineOf a))
-
-signals-more : (answers : List Answer) (a : Answer) → signalsIn (answers ++ (a ∷ [])) ≡ signalsIn answers + oneSignal a
-unfolding signalsIn
-signals-more [] a = omega arith
-signals-more (x ∷ rest) a = omega (arith, signals-more rest a)
+lines-append [] ys = refl
+lines-append (x ∷ xs) ys = ap (λ (t : List ℕ). lineOf (x .node) (x .answer) ++ t) (lines-append xs ys) ∙ sym (append-assoc (lineOf (x .node) (x .answer)) (answerLines xs) (answerLines ys))
 
 -- the line of a mask and a count is that of the answer which they say
-mask-line : (mask count : ℕ) → pointLine (record { count = count; mask = mask }) ≡ lineOf (maskAnswer mask count)
+mask-line : (node mask count : ℕ) → pointLine (record { node = node; count = count; mask = mask }) ≡ lineOf node (maskAnswer mask count)
 unfolding pointLine
-mask-line mask count = go (eqb mask 0)
+mask-line node mask count = go (eqb mask 0)
   where
-    go : (b : Bool)
-        → cond b (quietLine count) (signalLine count mask) ≡ lineOf (cond b (quiet count) (signal count mask))
+    go : (b : Bool) → cond b (quietLine node count) (signalLine node count mask) ≡ lineOf node (cond b (quiet count) (signal count mask))
     go true = refl
     go false = refl
 
--- a mask says whether its answer is a signal
-mask-signal : (mask count : ℕ) → oneSignal (maskAnswer mask count) ≡ cond (eqb mask 0) 0 1
-mask-signal mask count = go (eqb mask 0)
-  where
-    go : (b : Bool) → oneSignal (cond b (quiet count) (signal count mask)) ≡ cond b 0 1
-    go true = refl
-    go false = refl
+module _ (rs : List Rule) (centre : ℤ) (sigma : ℕ) (done : List NodeReading) (node : ℕ) (x : ℤ) where
+  -- the zones of a point's node, with it
+  zones-own : zonesOf centre sigma (readingsOf node (done ++ (nodeReading node x ∷ []))) ≡ zonesOf centre sigma (readingsOf node done) ++ (zoneAt (x -ℤ centre) sigma ∷ [])
+  unfolding zonesOf
+  zones-own = rw (readings-append node done (nodeReading node x ∷ []), reading-own node x) (zones-append centre sigma (readingsOf node done) (x ∷ []))
 
-pub signal-le : (mask : ℕ) → cond (eqb mask 0) 0 1 ≤ 1
-signal-le mask = go (eqb mask 0)
-  where
-    go : (b : Bool) → cond b 0 1 ≤ 1
-    go true = omega arith
-    go false = omega arith
+  -- the line that a point adds
+  line-more : answerLines (benchAnswers (takenChart rs centre sigma) [] (done ++ (nodeReading node x ∷ [])))
+      ≡ answerLines (benchAnswers (takenChart rs centre sigma) [] done)
+      ++ lineOf node (answerAfter rs freshMonitor (zonesOf centre sigma (readingsOf node done)) (zoneAt (x -ℤ centre) sigma))
+  unfolding answerLines
+  line-more =
+      let zs = zonesOf centre sigma (readingsOf node done) in
+      let z = zoneAt (x -ℤ centre) sigma in
+      let a = answerAfter rs freshMonitor zs z in
+      let last : lastAnswer node (takenChart rs centre sigma (readingsOf node (done ++ (nodeReading node x ∷ [])))) ≡ nodeAnswer node a ∷ [] =
+      rw (zones-own, answers-more rs freshMonitor zs z) (last-more node (takenAnswers rs freshMonitor zs) a) in
+      ap answerLines (bench-more (takenChart rs centre sigma) [] done (nodeReading node x) ∙ ap (λ (l : List NodeAnswer). benchAnswers (takenChart rs centre sigma) [] done ++ l) last)
+      ∙ lines-append (benchAnswers (takenChart rs centre sigma) [] done) (nodeAnswer node a ∷ [])
+      ∙ ap (λ (l : List ℕ). answerLines (benchAnswers (takenChart rs centre sigma) [] done) ++ l) (append-nil (lineOf node a))
 
--- the monitor after a point counts it, or starts again
-count-le : (rs : List Rule) (m : Monitor) (z : ℕ) → takenOf rs m z .next .count ≤ m .count + 1
-unfolding takenOf
-count-le rs m z = go (eqb (stateMask rs (m .state) z) 0)
+  -- the nodes behind the point: its own is moved on, the others stay
+  nodes-more : (nodes : List Node) → NodesAre rs centre sigma done nodes → node < length nodes
+      → (next : Node) → next ≡ nodeTaken rs (nodeAfter rs (zonesOf centre sigma (readingsOf node done))) (zoneAt (x -ℤ centre) sigma) .next
+      → NodesAre rs centre sigma (done ++ (nodeReading node x ∷ [])) (set nodes node next)
+  nodes-more nodes are slot next e k lt = go (ℕ-discrete k node)
+    where
+      go : Dec (k ≡ node) → getD (set nodes node next) k freshNode ≡ nodeAfter rs (zonesOf centre sigma (readingsOf k (done ++ (nodeReading node x ∷ []))))
+      go (yes q) = rw (q, getD-set-same nodes node next freshNode slot, zones-own, e) (sym (node-more rs _ _))
+      go (no n) =
+          let same : readingsOf k (done ++ (nodeReading node x ∷ [])) ≡ readingsOf k done =
+          rw (readings-append k done (nodeReading node x ∷ []), reading-other k node x (λ r. n (sym r))) (append-nil (readingsOf k done)) in
+          rw same (getD-set-other nodes node k next freshNode n ∙ are k lt)
+
+taken-same : (rs : List Rule) {n n′ : Node} {z z′ : ℕ} → n ≡ n′ → z ≡ z′ → nodeTaken rs n z ≡ nodeTaken rs n′ z′
+taken-same rs e f = rw (e, f)
+
+-- the reading of a point line fits 32 bits
+pub reading-fits : (s : List ℕ) (i node : ℕ) (x : ℤ) (next : ℕ) → lineAt s i ≡ Point node x next → SFits w32 x
+reading-fits s i node x next e = go x (line-stands s i (Point node x next) e tt .range .1)
   where
-    go : (b : Bool) → cond b (monitorAt (nextState rs (m .state) z) (m .count + 1)) freshMonitor .count ≤ m .count + 1
-    go true = omega arith
-    go false = omega arith
+    go : (x : ℤ) → InSigned x → SFits w32 x
+    go (pos n) r = record { sfits = omega arith }
+    go (negsuc n) r = record { sfits = omega arith }
+
+-- fresh nodes
+pub slots-fresh : (m : ℕ) (n : Node) → n ≡ freshNode → (k : ℕ) → k < nodeCount → getD (replicate m n) k freshNode ≡ freshNode
+slots-fresh zero n e k l = refl
+slots-fresh (suc m) n e zero l = e
+slots-fresh (suc m) n e (suc k) l = slots-fresh m n e k (omega arith)
 
 -- ---- the turns of the loop
 
 module _ {s : List ℕ} {at : ℕ} {rs : List Rule} {centre : ℤ} {sigma : ℕ} {before : List ℕ} where
-  pub written-start : AllInBounds rs → PointsWritten s at rs centre sigma before before at 0 0 0 freshMonitor
-  unfolding answerLines signalsIn
-  written-start bounds =
+  pub written-start : OnBench (pointsAt (length s) s at) → (nodes : List Node) → ((k : ℕ) → k < nodeCount → getD nodes k freshNode ≡ freshNode) → length nodes ≡ nodeCount
+      → BenchWritten s at rs centre sigma before before nodes at 0
+  unfolding answerLines benchAnswers zonesOf readingsOf nodeAfter takenAfter takenAnswers signalsIn
+  written-start bench nodes fresh slots =
       record {
         fuel = length s;
         enough = omega arith;
-        answers = [];
+        done = [];
         whole = refl;
-        total = omega arith;
-        point-count = refl;
-        signal-count = refl;
-        valid = fresh-valid rs bounds;
-        counted = omega arith;
-        signalled = omega arith;
+        bench = bench;
+        nodes-are = λ k l. fresh k l;
+        slots = slots;
         ahead = omega arith;
         fit = omega arith;
         size = refl;
@@ -104,50 +143,78 @@ module _ {s : List ℕ} {at : ℕ} {rs : List Rule} {centre : ℤ} {sigma : ℕ}
         wrote = wrote-nothing before 0 (omega arith);
       }
 
-  module _ {after : List ℕ} {i end points signals : ℕ} {m : Monitor}
-      (u : PointsWritten s at rs centre sigma before after i end points signals m) where
-    -- at a point line one of the points is still to come
-    pub points-left : (x : ℤ) (next : ℕ) → lineAt s i ≡ Point x next → points + 1 ≤ length (readingsAt (length s) s at)
-    points-left x next e = omega (arith, u .total, ap length (one-point (u .fuel) s i x next e (u .enough) .2))
+  module _ {after : List ℕ} {nodes : List Node} {i end : ℕ} (u : BenchWritten s at rs centre sigma before after nodes i end) where
+    -- at a point line one of the points is still to come, and its node is one of the bench's
+    pub points-left : (node : ℕ) (x : ℤ) (next : ℕ) → lineAt s i ≡ Point node x next → length (u .done) + 1 ≤ length (pointsAt (length s) s at)
+    points-left node x next e =
+        let o = one-point (u .fuel) s i node x next e (u .enough) in
+        omega (arith, ap length (u .whole), length-append (u .done) (pointsAt (u .fuel) s i), ap length (o .2))
 
-    pub written-more : AllInBounds rs → (x : ℤ) (next : ℕ) → lineAt s i ≡ Point x next
-        → (z : ℕ) → z ≡ zoneAt (x -ℤ centre) sigma → (taken : Taken) → taken ≡ takenOf rs m z
-        → {after′ : List ℕ} (r one : ℕ)
-        → Wrote after end after′ r (pointLine (record { count = m .count + 1; mask = taken .mask }))
-        → r ≤ end + pointRoom
-        → one ≡ cond (eqb (taken .mask) 0) 0 1
-        → PointsWritten s at rs centre sigma before after′ next r (points + 1) (signals + one) (taken .next)
-    unfolding zonesOf takenAnswers
-    written-more bounds x next e z ez taken et {after′} r one w l eo =
-        let a = point-ahead s i x next e in
-        let o = one-point (u .fuel) s i x next e (u .enough) in
-        let answer = maskAnswer (taken .mask) (m .count + 1) in
-        let whole′ = rw (o .2, ← ez, ← et) at (u .whole) in
-        let count′ = rw (← et) at (count-le rs m z) in
+    pub done-few : length (u .done) ≤ length (pointsAt (length s) s at)
+    done-few = omega (arith, ap length (u .whole), length-append (u .done) (pointsAt (u .fuel) s i))
+
+    pub node-below : (node : ℕ) (x : ℤ) (next : ℕ) → lineAt s i ≡ Point node x next → node < nodeCount
+    unfolding OnBench
+    node-below node x next e =
+        let o = one-point (u .fuel) s i node x next e (u .enough) in
+        (rw (o .2) at (u .bench)) .0
+
+    -- its node can take it
+    pub node-ready : AllInBounds rs → length s ≤ maxText → (node : ℕ) → node < nodeCount
+        → (let n = getD nodes node freshNode in
+        ((n .monitor .count < maxNumber) × (n .points < maxNumber) × (n .signals < maxNumber)) × (validState (n .monitor .count) rs (n .monitor .state) ≡ true))
+    node-ready bounds short node below =
+        let xs = readingsOf node (u .done) in
+        let zs = zonesOf centre sigma xs in
+        let few : length zs ≤ maxText = omega (arith, zones-length centre sigma xs, readings-few node (u .done), u .fit) in
+        let small = node-small rs zs in
+        rw (u .nodes-are node below)
+        ((omega (arith, small), omega (arith, small), omega (arith, small)), node-valid rs zs bounds (zones-exist centre sigma xs))
+
+    pub written-more : (node : ℕ) (x : ℤ) (next : ℕ) → lineAt s i ≡ Point node x next
+        → (z : ℕ) → z ≡ zoneAt (x -ℤ centre) sigma → (p : NodePoint) → p ≡ nodeTaken rs (getD nodes node freshNode) z
+        → {after′ : List ℕ} (r : ℕ) → Wrote after end after′ r (pointLine (record { node = node; count = p .count; mask = p .mask })) → r ≤ end + pointRoom
+        → BenchWritten s at rs centre sigma before after′ (set nodes node (p .next)) next r
+    unfolding OnBench nodeTaken nodeAfter
+    written-more node x next e z ez p ep {after′} r w l =
+        let a = point-ahead s i node x next e in
+        let o = one-point (u .fuel) s i node x next e (u .enough) in
+        let below = node-below node x next e in
+        let one = nodeReading node x in
+        let zs = zonesOf centre sigma (readingsOf node (u .done)) in
+        let count : length (u .done ++ (one ∷ [])) ≡ length (u .done) + 1 = length-append (u .done) (one ∷ []) in
+        let own : p ≡ nodeTaken rs (nodeAfter rs zs) (zoneAt (x -ℤ centre) sigma) = ep ∙ taken-same rs (u .nodes-are node below) ez in
+        let slot : node < length nodes = omega (arith, u .slots) in
+        let line : pointLine (record { node = node; count = p .count; mask = p .mask }) ≡ lineOf node (answerAfter rs freshMonitor zs (zoneAt (x -ℤ centre) sigma)) =
+        rw own (mask-line node _ _) in
         record {
           fuel = o .0;
           enough = o .1;
-          answers = u .answers ++ (answer ∷ []);
-          whole = append-assoc (u .answers) (answer ∷ []) _ ∙ whole′;
-          total = omega (arith, u .total, ap length (o .2));
-          point-count = omega (arith, u .point-count, length-append (u .answers) (answer ∷ []));
-          signal-count = omega (arith, u .signal-count, signals-more (u .answers) answer, mask-signal (taken .mask) (m .count + 1));
-          valid = rw (← et) at (taken-valid rs bounds m z (omega (arith, ez, zone-exists (x -ℤ centre) sigma)) (u .valid));
-          counted = omega (arith, count′, u .counted);
-          signalled = omega (arith, u .signalled, signal-le (taken .mask));
-          ahead = omega (arith, a, u .ahead);
-          fit = omega (arith, a, u .ahead);
+          done = u .done ++ (one ∷ []);
+          whole = append-assoc (u .done) (one ∷ []) _ ∙ (rw (o .2) at (u .whole));
+          bench = (rw (o .2) at (u .bench)) .1;
+          nodes-are = nodes-more rs centre sigma (u .done) node x nodes (u .nodes-are) slot (p .next) (ap (λ (y : NodePoint). y .next) own);
+          slots = length-set nodes node (p .next) ∙ u .slots;
+          ahead = omega (arith, a, u .ahead, count);
+          fit = omega (arith, a, u .ahead, count);
           size = wrote-length w ∙ u .size;
-          room = omega (arith, u .room, l);
-          wrote = rw (lines-more (u .answers) answer, ← mask-line (taken .mask) (m .count + 1)) (then (u .wrote) w);
+          room = omega (arith, u .room, l, count);
+          wrote = rw (line-more rs centre sigma (u .done) node x, ← line) (then (u .wrote) w);
         }
 
-    -- all the points are charted, and the total is written behind them
-    pub written-done : NotOf point (lineAt s i) → {after′ : List ℕ} (r : ℕ) → Wrote after end after′ r (totalLine points signals)
-        → Wrote before 0 after′ r (pointsBytes (answersTo rs centre sigma freshMonitor (readingsAt (length s) s at)))
-    unfolding zonesOf takenAnswers pointsBytes
-    written-done none r w =
-        let q = no-points (u .fuel) s i none in
-        let all : u .answers ≡ answersTo rs centre sigma freshMonitor (readingsAt (length s) s at) =
-        sym (append-nil (u .answers)) ∙ (rw (q .0) at (u .whole)) in
-        rw (← all, ← u .point-count, ← u .signal-count) (then (u .wrote) w)
+    -- all the points are charted
+    pub all-done : NotOf point (lineAt s i) → u .done ≡ pointsAt (length s) s at
+    all-done none = let q = no-points (u .fuel) s i none in sym (append-nil (u .done)) ∙ (rw (q .0) at (u .whole))
+
+    totals-are : (n : ℕ) → n ≤ nodeCount → totalsOf nodes n ≡ benchTotals (takenChart rs centre sigma) (u .done) n
+    unfolding totalsOf benchTotals
+    totals-are zero h = refl
+    totals-are (suc n) h =
+        let one : totalOf n (getD nodes n freshNode) ≡ _ = ap (totalOf n) (u .nodes-are n (omega arith)) ∙ node-total rs (zonesOf centre sigma (readingsOf n (u .done))) n in
+        rw (totals-are n (omega arith), one)
+
+    -- and the totals are written behind them
+    pub written-done : NotOf point (lineAt s i) → {after′ : List ℕ} (r : ℕ) → Wrote after end after′ r (totalLines (totalsOf nodes nodeCount))
+        → Wrote before 0 after′ r (benchBytes (takenChart rs centre sigma) (pointsAt (length s) s at))
+    unfolding benchBytes
+    written-done none r w = rw (← (all-done none), ← (totals-are nodeCount (omega arith))) (then (u .wrote) w)

@@ -1,5 +1,6 @@
 // Text in, text out: what each program prints for a text.
 mod monitors;
+mod nodes;
 mod outputs;
 mod points;
 mod weights;
@@ -30,9 +31,9 @@ impl ReportAnswer {
     // The most points that a text can have.
     pub const MAX_POINTS: usize = text::MAX_TEXT / text::MIN_POINT;
 
-    // Room for the monitor program's lines: one for each point, and the total.
+    // Room for the monitor program's lines: one for each point, and a total for each node.
     pub const MONITOR_SIZE: usize = print::POINT_ROOM * ReportAnswer::MAX_POINTS
-        + print::TOTAL_ROOM;
+        + print::TOTAL_ROOM * parse::NODES as usize;
 
     // Room for the weights program's line.
     pub const WEIGHTS_SIZE: usize = print::WEIGHTS_ROOM;

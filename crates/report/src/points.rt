@@ -1,28 +1,26 @@
-// The lines of a text's points, read again one by one.
-use monitor::Monitor;
+// The lines of a text's points, read again one by one, each charted by the monitor of its node.
+use crate::nodes::chart_point;
+use crate::nodes::fresh_node;
+use crate::nodes::put_totals;
 use monitor::zone::zone_at;
+use parse::NODES;
 use print::PointLine;
 use print::put_point;
-use print::put_total;
 use rules::RuleList;
 use text::Line;
 use text::line_at;
-ghost use mathlib.Core.Path.{_≡_};
-ghost use mathlib.Core.Bool.{cond};
 ghost use Prim.Native.Nat.{_+_, _*_, _≤_};
-ghost use lib.Dec.{eqb};
 ghost use lib.ListN.{length};
 ghost use Rattle.rules.specs.Bounds.{maxRules};
 ghost use Rattle.rules.specs.Check.{activeRules};
 ghost use Rattle.rules.specs.InBounds.{AllInBounds};
 ghost use Rattle.monitor.specs.Zone.{minSigma, maxSigma};
-ghost use Rattle.monitor.specs.Step.{freshMonitor};
-ghost use Rattle.monitor.specs.Take.{takenAnswers};
 ghost use Rattle.text.specs.Wrote.{Wrote};
 ghost use Rattle.text.specs.Size.{maxText};
-ghost use Rattle.parse.specs.Readings.{readingsAt};
+ghost use Rattle.parse.specs.Readings.{pointsAt, nodeCount, OnBench};
 ghost use Rattle.print.specs.Monitor.{pointRoom, totalRoom};
-ghost use Rattle.report.specs.Points.{zonesOf, pointsBytes};
+ghost use Rattle.report.specs.Points.{benchBytes};
+ghost use Rattle.report.specs.Nodes.{takenChart};
 
 // A chart's centre and sigma.
 pub(crate) struct Chart {
@@ -30,14 +28,7 @@ pub(crate) struct Chart {
     pub(crate) sigma: u32,
 }
 
-// 1 for a signal, else 0.
-fn one_signal(mask: u32) -> u32
-    ensures { λ r. ⌜ r ≡ cond (eqb mask 0) 0 1 ⌝ }
-{
-    if mask == 0 { 0 } else { 1 }
-}
-
-// The lines of the points from `at` on, and the total, from the buffer's start.
+// The lines of the points from `at` on, and the nodes' totals, from the buffer's start.
 pub(crate) fn put_points(
     out: &mut [u8],
     text: &[u8],
@@ -48,27 +39,30 @@ pub(crate) fn put_points(
     requires { ⌜ (list .len ≤ maxRules) × AllInBounds (activeRules list) ⌝ }
     requires { ⌜ (minSigma ≤ chart .sigma) × (chart .sigma ≤ maxSigma) ⌝ }
     requires { ⌜ length (now text) ≤ maxText ⌝ }
-    requires { ⌜ pointRoom * length (readingsAt (length (now text)) (now text) at) + totalRoom ≤ length (now out) ⌝ }
+    requires { ⌜ OnBench (pointsAt (length (now text)) (now text) at) ⌝ }
+    requires { ⌜ pointRoom * length (pointsAt (length (now text)) (now text) at) + totalRoom * nodeCount ≤ length (now out) ⌝ }
     ensures { λ r. ⌜ Wrote (now (out .entry)) 0 (now (out .exit)) r
-        (pointsBytes (takenAnswers (activeRules list) freshMonitor (zonesOf (chart .centre) (chart .sigma) (readingsAt (length (now (text .entry))) (now (text .entry)) at)))) ⌝ }
+        (benchBytes (takenChart (activeRules list) (chart .centre) (chart .sigma)) (pointsAt (length (now (text .entry))) (now (text .entry)) at)) ⌝ }
 {
-    let mut monitor = Monitor::fresh();
+    let mut nodes = [fresh_node(); NODES as usize];
     let mut i = at;
     let mut end = 0;
-    let mut points: u32 = 0;
-    let mut signals: u32 = 0;
     loop {
-        let Line::Point { reading, next } = line_at(text, i) else {
-            return put_total(out, end, points, signals);
+        let Line::Point {
+            node,
+            reading,
+            next,
+        } = line_at(text, i)
+        else {
+            return put_totals(out, end, nodes);
         };
         let zone = zone_at(reading, chart.centre, chart.sigma);
-        let count = monitor.count + 1;
-        let taken = monitor.take(list, zone);
-        let mask = taken.mask;
-        end = put_point(out, end, PointLine { count, mask });
-        signals += one_signal(mask);
-        points += 1;
-        monitor = taken.next;
+        let point = chart_point(nodes[node as usize], list, zone);
+        let count = point.count;
+        let mask = point.mask;
+        end = put_point(out, end, PointLine { node, count, mask });
+        let next_node = point.next;
+        nodes[node as usize] = next_node;
         i = next;
     }
 }

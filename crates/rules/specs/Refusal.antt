@@ -80,3 +80,7 @@ tooLong = refusal 17 0
 -- a shift outside its bounds
 abbrev pub badShift : Refusal
 badShift = refusal 18 0
+
+-- a node over the last one, at the point line with this number, from 1
+abbrev pub badNode : ℕ → Refusal
+badNode line = refusal 19 line

@@ -60,4 +60,7 @@ impl Refusal {
 
     // The shift is outside its bounds.
     pub const SHIFT: u32 = 18;
+
+    // A node over the last one. Its place is the point line.
+    pub const NODE: u32 = 19;
 }

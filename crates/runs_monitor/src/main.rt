@@ -1,4 +1,4 @@
-// The monitor program: a text on standard input, a line for each of its points on standard output.
+// The monitor program: a text on standard input; on standard output a line for each of its points, and a total for each node.
 use report::ReportAnswer;
 use text::MAX_TEXT;
 

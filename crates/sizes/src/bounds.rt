@@ -29,6 +29,7 @@ pub fn charts() {
 pub fn texts() {
     line(b"MAX_TEXT,", text::MAX_TEXT as u64);
     line(b"MAX_ROWS,", print::MAX_ROWS as u64);
+    line(b"NODES,", parse::NODES as u64);
     line(b"TABLE_SIZE,", ReportAnswer::TABLE_SIZE as u64);
     line(b"MONITOR_SIZE,", ReportAnswer::MONITOR_SIZE as u64);
     line(b"WEIGHTS_SIZE,", ReportAnswer::WEIGHTS_SIZE as u64);

@@ -14,6 +14,7 @@ fn main() {
     refusals::monitor();
     refusals::table();
     refusals::bracket();
+    refusals::texts();
     lists::western_electric();
     lists::duncan();
 }

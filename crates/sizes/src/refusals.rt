@@ -24,7 +24,11 @@ pub fn bracket() {
     line(b"BAD_N,", Refusal::STATE_COUNT as u64);
     line(b"BAD_PERCENT,", Refusal::PERCENT as u64);
     line(b"BAD_CHANCES,", Refusal::TOTAL as u64);
+}
+
+pub fn texts() {
     line(b"BAD_LINE,", Refusal::LINE as u64);
     line(b"LONG_TEXT,", Refusal::TEXT_SIZE as u64);
     line(b"BAD_SHIFT,", Refusal::SHIFT as u64);
+    line(b"BAD_NODE,", Refusal::NODE as u64);
 }

@@ -22,6 +22,10 @@ decimal (suc n) = digitsOf (suc n) (suc n)
 abbrev pub numberRoom : ℕ
 numberRoom = 20
 
+-- and of one of 32 bits: 2 ^ 32 is between 10 ^ 9 and 10 ^ 10
+abbrev pub shortRoom : ℕ
+shortRoom = 10
+
 -- the byte `-`
 abbrev pub minusByte : ℕ
 minusByte = 45

@@ -77,6 +77,9 @@ decimal-short k (suc n) p h = digits-short k (suc n) (suc n) h
 pub decimal-short-64 : (n : ℕ) → n < 2 ^ 64 → length (decimal n) ≤ 20
 decimal-short-64 n h = decimal-short 20 n (omega arith) (omega arith)
 
+pub decimal-short-32 : (n : ℕ) → n < 2 ^ 32 → length (decimal n) ≤ 10
+decimal-short-32 n h = decimal-short 10 n (omega arith) (omega arith)
+
 pub decimal-some : (n : ℕ) → 1 ≤ length (decimal n)
 unfolding decimal digitsOf
 decimal-some zero = omega arith

@@ -27,7 +27,7 @@ bytesOf (Weights w next) = weightsWord ++ fields (weightList w) ++ newline
 bytesOf (Rule k m zones next) = ruleWord ++ field k ++ field m ++ field zones ++ newline
 bytesOf (Horizon horizon next) = horizonWord ++ field horizon ++ newline
 bytesOf (Chart centre sigma next) = chartWord ++ signedField centre ++ field sigma ++ newline
-bytesOf (Point reading next) = pointWord ++ signedField reading ++ newline
+bytesOf (Point node reading next) = pointWord ++ field node ++ signedField reading ++ newline
 bytesOf (Shift shift next) = shiftWord ++ signedField shift ++ newline
 bytesOf Other = []
 
@@ -37,7 +37,7 @@ nextOf (Weights w next) = next
 nextOf (Rule k m zones next) = next
 nextOf (Horizon horizon next) = next
 nextOf (Chart centre sigma next) = next
-nextOf (Point reading next) = next
+nextOf (Point node reading next) = next
 nextOf (Shift shift next) = next
 nextOf Other = 0
 
@@ -47,7 +47,7 @@ NotOther (Weights w next) = Unit {0}
 NotOther (Rule k m zones next) = Unit {0}
 NotOther (Horizon horizon next) = Unit {0}
 NotOther (Chart centre sigma next) = Unit {0}
-NotOther (Point reading next) = Unit {0}
+NotOther (Point node reading next) = Unit {0}
 NotOther (Shift shift next) = Unit {0}
 NotOther Other = ⊥
 
@@ -70,7 +70,7 @@ InRange (Weights w next) = AllUnsigned (weightList w)
 InRange (Rule k m zones next) = Unsigned k × Unsigned m × Unsigned zones
 InRange (Horizon horizon next) = Unsigned horizon
 InRange (Chart centre sigma next) = InSigned centre × Unsigned sigma
-InRange (Point reading next) = InSigned reading
+InRange (Point node reading next) = Unsigned node × InSigned reading
 InRange (Shift shift next) = InSigned shift
 InRange Other = ⊥
 

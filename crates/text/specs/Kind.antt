@@ -17,7 +17,7 @@ kindOf (Weights w next) = weights
 kindOf (Rule k m zones next) = rule
 kindOf (Horizon h next) = horizon
 kindOf (Chart centre sigma next) = chart
-kindOf (Point x next) = point
+kindOf (Point node x next) = point
 kindOf (Shift x next) = shift
 kindOf Other = none
 

@@ -19,7 +19,7 @@ data LineOf : Kind → Line → Type 0 where
   a-rule : (k m zones next : ℕ) → LineOf rule (Rule k m zones next)
   a-horizon : (h next : ℕ) → LineOf horizon (Horizon h next)
   a-chart : (centre : ℤ) (sigma next : ℕ) → LineOf chart (Chart centre sigma next)
-  a-point : (x : ℤ) (next : ℕ) → LineOf point (Point x next)
+  a-point : (node : ℕ) (x : ℤ) (next : ℕ) → LineOf point (Point node x next)
   a-shift : (x : ℤ) (next : ℕ) → LineOf shift (Shift x next)
   no-line : LineOf none Other
 
@@ -28,7 +28,7 @@ said (Weights w next) = a-weights w next
 said (Rule k m zones next) = a-rule k m zones next
 said (Horizon h next) = a-horizon h next
 said (Chart centre sigma next) = a-chart centre sigma next
-said (Point x next) = a-point x next
+said (Point node x next) = a-point node x next
 said (Shift x next) = a-shift x next
 said Other = no-line
 
@@ -65,11 +65,11 @@ module _ {P : Type 0} (l : Line) where
       at : (x : Line) → l ≡ x → LineOf chart x → P
       at x e (a-chart centre sigma next) = f centre sigma next e
 
-  pub point-or-none : ((x : ℤ) (next : ℕ) → l ≡ Point x next → P) → (NotOf point l → P) → P
+  pub point-or-none : ((node : ℕ) (x : ℤ) (next : ℕ) → l ≡ Point node x next → P) → (NotOf point l → P) → P
   point-or-none f = of-kind point (at l refl)
     where
       at : (x : Line) → l ≡ x → LineOf point x → P
-      at x e (a-point y next) = f y next e
+      at x e (a-point node y next) = f node y next e
 
   pub shift-or-none : ((x : ℤ) (next : ℕ) → l ≡ Shift x next → P) → (NotOf shift l → P) → P
   shift-or-none f = of-kind shift (at l refl)
@@ -85,7 +85,7 @@ module _ {A : Type 0} where
   weights-passed (Rule k m zones next) f a n = refl
   weights-passed (Horizon h next) f a n = refl
   weights-passed (Chart centre sigma next) f a n = refl
-  weights-passed (Point x next) f a n = refl
+  weights-passed (Point node x next) f a n = refl
   weights-passed (Shift x next) f a n = refl
   weights-passed Other f a n = refl
 
@@ -94,7 +94,7 @@ module _ {A : Type 0} where
   rule-passed (Rule k m zones next) f a n = absurd (n .never refl)
   rule-passed (Horizon h next) f a n = refl
   rule-passed (Chart centre sigma next) f a n = refl
-  rule-passed (Point x next) f a n = refl
+  rule-passed (Point node x next) f a n = refl
   rule-passed (Shift x next) f a n = refl
   rule-passed Other f a n = refl
 
@@ -103,7 +103,7 @@ module _ {A : Type 0} where
   horizon-passed (Rule k m zones next) f a n = refl
   horizon-passed (Horizon h next) f a n = absurd (n .never refl)
   horizon-passed (Chart centre sigma next) f a n = refl
-  horizon-passed (Point x next) f a n = refl
+  horizon-passed (Point node x next) f a n = refl
   horizon-passed (Shift x next) f a n = refl
   horizon-passed Other f a n = refl
 
@@ -112,16 +112,16 @@ module _ {A : Type 0} where
   chart-passed (Rule k m zones next) f a n = refl
   chart-passed (Horizon h next) f a n = refl
   chart-passed (Chart centre sigma next) f a n = absurd (n .never refl)
-  chart-passed (Point x next) f a n = refl
+  chart-passed (Point node x next) f a n = refl
   chart-passed (Shift x next) f a n = refl
   chart-passed Other f a n = refl
 
-  pub point-passed : (l : Line) (f : ℤ → ℕ → A) (a : A) → NotOf point l → onPoint l f a ≡ a
+  pub point-passed : (l : Line) (f : ℕ → ℤ → ℕ → A) (a : A) → NotOf point l → onPoint l f a ≡ a
   point-passed (Weights w next) f a n = refl
   point-passed (Rule k m zones next) f a n = refl
   point-passed (Horizon h next) f a n = refl
   point-passed (Chart centre sigma next) f a n = refl
-  point-passed (Point x next) f a n = absurd (n .never refl)
+  point-passed (Point node x next) f a n = absurd (n .never refl)
   point-passed (Shift x next) f a n = refl
   point-passed Other f a n = refl
 
@@ -130,6 +130,6 @@ module _ {A : Type 0} where
   shift-passed (Rule k m zones next) f a n = refl
   shift-passed (Horizon h next) f a n = refl
   shift-passed (Chart centre sigma next) f a n = refl
-  shift-passed (Point x next) f a n = refl
+  shift-passed (Point node x next) f a n = refl
   shift-passed (Shift x next) f a n = absurd (n .never refl)
   shift-passed Other f a n = refl

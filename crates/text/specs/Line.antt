@@ -54,7 +54,7 @@ chartFrom s p =
     Other) Other) Other
 
 unfoldable pub pointFrom : List ℕ → ℕ → Line
-pointFrom s p = onSigned (signedEnd s p) Point Other
+pointFrom s p = onNumber (fieldAt s p) (λ node a. onSigned (signedEnd s a) (λ reading next. Point node reading next) Other) Other
 
 unfoldable pub shiftFrom : List ℕ → ℕ → Line
 shiftFrom s p = onSigned (signedEnd s p) Shift Other

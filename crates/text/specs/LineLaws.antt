@@ -111,7 +111,10 @@ module _ (s : List ℕ) (at : ℕ) where
 
   point-fine : (p : ℕ) → Spans s at pointWord p → Fine (pointFrom s p)
   unfolding pointFrom
-  point-fine p u = end-fine u Point λ x next r v. inr (record { spans = v; range = r })
+  point-fine p u =
+      on-field u _ λ node a rn un.
+      end-fine un _ λ x next r v.
+      inr (record { spans = v; range = (rn, r) })
 
   shift-fine : (p : ℕ) → Spans s at shiftWord p → Fine (shiftFrom s p)
   unfolding shiftFrom
@@ -145,16 +148,20 @@ line-stands s at l e n = go l n (rw e at (line-is s at))
     go l n (inl q) = absurd (rw q at n)
     go l n (inr r) = r
 
--- how far a line reaches: the shortest are `point,0` and `shift,0`
+-- how far a line reaches: the shortest is `shift,0`, and `point,0,0` of the points
 bytes-long : (l : Line) → InRange l → minLine ≤ length (bytesOf l)
 unfolding field
 bytes-long (Weights w next) r = simp length-append (omega arith)
 bytes-long (Rule k m zones next) r = simp length-append (omega (arith, decimal-some k, decimal-some m, decimal-some zones))
 bytes-long (Horizon horizon next) r = simp length-append (omega (arith, decimal-some horizon))
 bytes-long (Chart centre sigma next) r = simp length-append (omega (arith, signed-some centre, decimal-some sigma))
-bytes-long (Point reading next) r = simp length-append (omega (arith, signed-some reading))
+bytes-long (Point node reading next) r = simp length-append (omega (arith, decimal-some node, signed-some reading))
 bytes-long (Shift shift next) r = simp length-append (omega (arith, signed-some shift))
 bytes-long Other r = absurd r
+
+point-long : (node : ℕ) (reading : ℤ) (next : ℕ) → minPoint ≤ length (bytesOf (Point node reading next))
+unfolding field
+point-long node reading next = simp length-append (omega (arith, decimal-some node, signed-some reading))
 
 -- it ends behind its start and within the text
 pub line-ahead : {s : List ℕ} {at : ℕ} (l : Line) → LineIs s at l → (at + minLine ≤ nextOf l) × (nextOf l ≤ length s)
@@ -168,9 +175,12 @@ pub read-ahead : (s : List ℕ) (at : ℕ) (l : Line) → lineAt s at ≡ l → 
 read-ahead s at l e n = line-ahead l (line-stands s at l e n)
 
 -- of a point line, whose fewest bytes are known
-pub point-ahead : (s : List ℕ) (at : ℕ) (x : ℤ) (next : ℕ) → lineAt s at ≡ Point x next
+pub point-ahead : (s : List ℕ) (at node : ℕ) (x : ℤ) (next : ℕ) → lineAt s at ≡ Point node x next
     → (at + minPoint ≤ next) × (next ≤ length s)
-point-ahead s at x next e = read-ahead s at (Point x next) e tt
+point-ahead s at node x next e =
+    let l = Point node x next in
+    let i = line-stands s at l e tt in
+    (omega (arith, point-long node x next, i .spans .end), line-ahead l i .1)
 
 -- there is no line at or beyond the end
 pub line-beyond : (s : List ℕ) (at : ℕ) → length s ≤ at → lineAt s at ≡ Other

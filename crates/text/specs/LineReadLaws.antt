@@ -104,20 +104,23 @@ module _ {s : List ℕ} {at : ℕ} where
         word-read newline ve,
       )
 
-  point-read : (reading : ℤ) (next : ℕ) → LineIs s at (Point reading next) → lineAt s at ≡ Point reading next
+  point-read : (node : ℕ) (reading : ℤ) (next : ℕ) → LineIs s at (Point node reading next) → lineAt s at ≡ Point node reading next
   unfolding lineAt pointFrom
-  point-read reading next l =
+  point-read node reading next l =
       let first : getD s at 0 ≡ 112 = spans-first (l .spans) in
-      let ur = spans-front (pointWord ++ signedField reading) newline (l .spans) in
-      let ve = spans-back (pointWord ++ signedField reading) newline (l .spans) in
+      let ur = spans-front (pointWord ++ field node ++ signedField reading) newline (l .spans) in
+      let un = spans-front (pointWord ++ field node) (signedField reading) ur in
+      let vr = spans-back (pointWord ++ field node) (signedField reading) ur in
+      let ve = spans-back (pointWord ++ field node ++ signedField reading) newline (l .spans) in
       rw (
         word-absent s at 119 112 _ first refl,
         word-absent s at 114 112 _ first refl,
         word-absent s at 104 112 _ first refl,
         word-absent s at 99 112 _ first refl,
-        word-read pointWord (spans-front pointWord (signedField reading) ur),
-        signed-end s _ Point Other,
-        signed-field-read reading (spans-back pointWord (signedField reading) ur) (l .range) (ends ve (omega arith)),
+        word-read pointWord (spans-front pointWord (field node) un),
+        field-read node (spans-back pointWord (field node) un) (l .range .0) (ends vr (omega arith)),
+        signed-end s _ (Point node) Other,
+        signed-field-read reading vr (l .range .1) (ends ve (omega arith)),
         word-read newline ve,
       )
 
@@ -144,7 +147,7 @@ module _ {s : List ℕ} {at : ℕ} where
   line-read (Rule k m zones next) l = rule-read k m zones next l
   line-read (Horizon horizon next) l = horizon-read horizon next l
   line-read (Chart centre sigma next) l = chart-read centre sigma next l
-  line-read (Point reading next) l = point-read reading next l
+  line-read (Point node reading next) l = point-read node reading next l
   line-read (Shift shift next) l = shift-read shift next l
   line-read Other l = absurd (l .range)
 
@@ -154,6 +157,6 @@ module _ {s : List ℕ} {at : ℕ} where
   kind-read (Rule k m zones next) r u = ap kindOf (line-read (Rule k m zones _) (record { spans = u; range = r }))
   kind-read (Horizon h next) r u = ap kindOf (line-read (Horizon h _) (record { spans = u; range = r }))
   kind-read (Chart c d next) r u = ap kindOf (line-read (Chart c d _) (record { spans = u; range = r }))
-  kind-read (Point x next) r u = ap kindOf (line-read (Point x _) (record { spans = u; range = r }))
+  kind-read (Point node x next) r u = ap kindOf (line-read (Point node x _) (record { spans = u; range = r }))
   kind-read (Shift x next) r u = ap kindOf (line-read (Shift x _) (record { spans = u; range = r }))
   kind-read Other r u = absurd r

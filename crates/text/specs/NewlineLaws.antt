@@ -42,7 +42,7 @@ newlines-signed-field : (x : ℤ) → newlines (signedField x) ≡ 0
 unfolding newlines
 newlines-signed-field x = omega (arith, newlines-signed x)
 
-newlines-fields : (ns : List ℕ) → newlines (fields ns) ≡ 0
+pub newlines-fields : (ns : List ℕ) → newlines (fields ns) ≡ 0
 unfolding newlines fields
 newlines-fields [] = refl
 newlines-fields (n ∷ ns) = omega (arith, newlines-append (field n) (fields ns), newlines-field n, newlines-fields ns)
@@ -70,6 +70,13 @@ newlines-line (Chart centre sigma next) o =
       newlines-signed-field,
       newlines-field,
     )
-newlines-line (Point x next) o = rw (newlines-append, newlines-append pointWord, newlines-signed-field)
+newlines-line (Point node x next) o =
+    rw (
+      newlines-append,
+      newlines-append (pointWord ++ field node) (signedField x),
+      newlines-append pointWord (field node),
+      newlines-field,
+      newlines-signed-field,
+    )
 newlines-line (Shift x next) o = rw (newlines-append, newlines-append shiftWord, newlines-signed-field)
 newlines-line Other o = absurd o

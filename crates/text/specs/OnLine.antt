@@ -11,7 +11,7 @@ onWeights (Weights w n) f other = f w n
 onWeights (Rule k m zones n) f other = other
 onWeights (Horizon h n) f other = other
 onWeights (Chart c d n) f other = other
-onWeights (Point x n) f other = other
+onWeights (Point node x n) f other = other
 onWeights (Shift x n) f other = other
 onWeights Other f other = other
 
@@ -20,7 +20,7 @@ onRule (Weights w n) f other = other
 onRule (Rule k m zones n) f other = f k m zones n
 onRule (Horizon h n) f other = other
 onRule (Chart c d n) f other = other
-onRule (Point x n) f other = other
+onRule (Point node x n) f other = other
 onRule (Shift x n) f other = other
 onRule Other f other = other
 
@@ -29,7 +29,7 @@ onHorizon (Weights w n) f other = other
 onHorizon (Rule k m zones n) f other = other
 onHorizon (Horizon h n) f other = f h n
 onHorizon (Chart c d n) f other = other
-onHorizon (Point x n) f other = other
+onHorizon (Point node x n) f other = other
 onHorizon (Shift x n) f other = other
 onHorizon Other f other = other
 
@@ -38,16 +38,16 @@ onChart (Weights w n) f other = other
 onChart (Rule k m zones n) f other = other
 onChart (Horizon h n) f other = other
 onChart (Chart c d n) f other = f c d n
-onChart (Point x n) f other = other
+onChart (Point node x n) f other = other
 onChart (Shift x n) f other = other
 onChart Other f other = other
 
-abbrev pub onPoint : {A : Type 0} → Line → (ℤ → ℕ → A) → A → A
+abbrev pub onPoint : {A : Type 0} → Line → (ℕ → ℤ → ℕ → A) → A → A
 onPoint (Weights w n) f other = other
 onPoint (Rule k m zones n) f other = other
 onPoint (Horizon h n) f other = other
 onPoint (Chart c d n) f other = other
-onPoint (Point x n) f other = f x n
+onPoint (Point node x n) f other = f node x n
 onPoint (Shift x n) f other = other
 onPoint Other f other = other
 
@@ -56,7 +56,7 @@ onShift (Weights w n) f other = other
 onShift (Rule k m zones n) f other = other
 onShift (Horizon h n) f other = other
 onShift (Chart c d n) f other = other
-onShift (Point x n) f other = other
+onShift (Point node x n) f other = other
 onShift (Shift x n) f other = f x n
 onShift Other f other = other
 

@@ -1,16 +1,16 @@
--- TO BELIEVE: the longest text that is read, and its shortest line. Definitions.
+-- TO BELIEVE: the longest text that is read, and the shortest lines. Definitions.
 use Prim.Native.Nat.{ℕ, _+_}
 use lib.ListN.{length}
-use Rattle.text.specs.Word.{comma, newline, pointWord}
+use Rattle.text.specs.Word.{comma, newline, pointWord, shiftWord}
 
 -- in bytes
 abbrev pub maxText : ℕ
 maxText = 65536
 
--- the fewest bytes of a point line: its word, a comma, a digit, LF
+-- the fewest bytes of a point line: its word, two commas, each with a digit, LF
 abbrev pub minPoint : ℕ
-minPoint = length pointWord + length comma + 1 + length newline
+minPoint = length pointWord + length comma + 1 + length comma + 1 + length newline
 
--- and of a line of any kind: no other is shorter
+-- and of a line of any kind: a shift line's word, a comma, a digit, LF
 abbrev pub minLine : ℕ
-minLine = minPoint
+minLine = length shiftWord + length comma + 1 + length newline

@@ -2,11 +2,13 @@
 // The longest text that is read, in bytes.
 pub const MAX_TEXT: usize = 65536;
 
-// The fewest bytes of a point line: `point`, a comma, a digit, LF.
-pub const MIN_POINT: usize = 5 + 1 + 1 + 1;
+// The fewest bytes of a point line: `point`, two commas, each with a digit, LF.
+pub const MIN_POINT: usize = 5 + 1 + 1 + 1 + 1 + 1;
 
-// The most digits of a number of 64 bits.
+// The most digits of a number of 64 bits, and of one of 32 bits.
 pub const NUMBER_ROOM: usize = 20;
+
+pub const SHORT_ROOM: usize = 10;
 
 mod lines;
 mod number;
@@ -26,3 +28,4 @@ pub use reader::moved;
 pub use write::put_byte;
 pub use write::put_bytes;
 pub use write::put_number;
+pub use write::put_short;

@@ -35,6 +35,7 @@ pub enum Line {
         next: usize,
     },
     Point {
+        node: u32,
         reading: i32,
         next: usize,
     },
@@ -153,10 +154,17 @@ fn chart_from(text: &[u8], at: usize) -> Line
 fn point_from(text: &[u8], at: usize) -> Line
     ensures { λ r. ⌜ r ≡ pointFrom (now (text .entry)) at ⌝ }
 {
-    let Signed::Whole(reading, next) = signed_end(text, at) else {
+    let Number::Value(node, a) = field(text, at) else {
         return Line::Other;
     };
-    Line::Point { reading, next }
+    let Signed::Whole(reading, next) = signed_end(text, a) else {
+        return Line::Other;
+    };
+    Line::Point {
+        node,
+        reading,
+        next,
+    }
 }
 
 // What follows the keyword of a shift line.

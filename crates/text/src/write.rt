@@ -4,7 +4,7 @@ ghost use mathlib.Core.List.{_∷_, []};
 ghost use mathlib.Core.Path.{_≡_};
 ghost use Prim.Native.Nat.{_+_, _<_, _≤_};
 ghost use lib.ListN.{length};
-ghost use Rattle.text.specs.Decimal.{digitByte, decimal, numberRoom};
+ghost use Rattle.text.specs.Decimal.{digitByte, decimal, numberRoom, shortRoom};
 ghost use Rattle.text.specs.Wrote.{Wrote};
 
 pub fn put_byte(out: &mut [u8], at: usize, byte: u8) -> usize
@@ -53,4 +53,13 @@ pub fn put_number(out: &mut [u8], at: usize, n: u64) -> usize
     ensures { λ r. ⌜ r ≤ at + numberRoom ⌝ }
 {
     put_digits(out, at, n)
+}
+
+// n in decimal, where there is room for every number of 32 bits.
+pub fn put_short(out: &mut [u8], at: usize, n: u32) -> usize
+    requires { ⌜ at + shortRoom ≤ length (now out) ⌝ }
+    ensures { λ r. ⌜ Wrote (now (out .entry)) at (now (out .exit)) r (decimal n) ⌝ }
+    ensures { λ r. ⌜ r ≤ at + shortRoom ⌝ }
+{
+    put_digits(out, at, n as u64)
 }

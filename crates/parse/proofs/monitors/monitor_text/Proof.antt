@@ -6,7 +6,7 @@ use mir.Val.{toZ, ofZ}
 use mir.Syntax.{w32}
 use Rattle.parse.specs.ElseLaws.{else-chart}
 use Rattle.parse.proofs.PartCases.{first-is, rules-are, points-are}
-use Rattle.parse.proofs.MonitorCases.{too-long, other-first, refused-rule, line-fits, goes-on, whole}
+use Rattle.parse.proofs.MonitorCases.{too-long, other-first, refused-rule, line-fits, goes-on, node-fits, off-bench, whole}
 use Rattle.parse.proofs.monitors.monitor_text.Statement.{statement}
 use Rattle.parse.proofs.monitors.monitor_text.Tie as tie
 
@@ -65,15 +65,37 @@ returns-4 c =
     let rules = rules-are s _ (x .read-parts .ensures) first in
     c .refused-monitor4 .ensures ∙ goes-on s (omega arith) first _ rules _ (points-are s _ (x .read-parts .ensures)) (omega arith)
 
-returns-5 : tie.Need-returns-5
-returns-5 c =
-    let back : toZ w32 (ofZ w32 (c .before .before .before .before .before .before .before .before .first .given .0 .0)) ≡ c .before .before .before .before .before .before .before .before .first .given .0 .0 = search needs in
-    let f = c .before .before .before .before .before .before .before .before in
+add-refused-monitor-2 : tie.Need-add-refused-monitor-2
+add-refused-monitor-2 c =
+    let f = c .before .before .before .before .before .before .before .before .before in
     let x = f .before .before in
     let s = x .before .before .before .args .text .now in
     let first = sym (first-is s _ (x .read-parts .ensures)) ∙ f .first .given .1 in
     let rules = rules-are s _ (x .read-parts .ensures) first in
-    rw back (whole s (omega arith) first _ rules _ (points-are s _ (x .read-parts .ensures)) (omega arith))
+    let points = points-are s _ (x .read-parts .ensures) in
+    omega (arith, line-fits s (omega arith) first _ rules _ points, node-fits s (omega arith) first _ rules _ points)
+
+refused-monitor-requires-5 : tie.Need-refused-monitor-requires-5
+refused-monitor-requires-5 c κs = search needs
+
+returns-5 : tie.Need-returns-5
+returns-5 c =
+    let f = c .before .before .before .before .before .before .before .before .before .before in
+    let x = f .before .before in
+    let s = x .before .before .before .args .text .now in
+    let first = sym (first-is s _ (x .read-parts .ensures)) ∙ f .first .given .1 in
+    let rules = rules-are s _ (x .read-parts .ensures) first in
+    c .refused-monitor5 .ensures ∙ off-bench s (omega arith) first _ rules _ (points-are s _ (x .read-parts .ensures)) (omega arith) (omega arith)
+
+returns-6 : tie.Need-returns-6
+returns-6 c =
+    let f = c .before .before .before .before .before .before .before .before .before in
+    let back : toZ w32 (ofZ w32 (f .first .given .0 .0)) ≡ f .first .given .0 .0 = search needs in
+    let x = f .before .before in
+    let s = x .before .before .before .args .text .now in
+    let first = sym (first-is s _ (x .read-parts .ensures)) ∙ f .first .given .1 in
+    let rules = rules-are s _ (x .read-parts .ensures) first in
+    rw back (whole s (omega arith) first _ rules _ (points-are s _ (x .read-parts .ensures)) (omega arith) (omega arith))
 
 pub monitor-text-spec : {M : Type 1} → statement M
 monitor-text-spec =
@@ -90,4 +112,7 @@ monitor-text-spec =
     add-refused-monitor
     refused-monitor-requires-4
     returns-4
-    returns-5)
+    add-refused-monitor-2
+    refused-monitor-requires-5
+    returns-5
+    returns-6)

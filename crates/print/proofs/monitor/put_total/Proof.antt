@@ -1,4 +1,4 @@
--- `print::put_total` meets its contract: two fields, LF.
+-- `print::put_total` meets its contract: three fields, LF.
 use borrow.Author.Needs.{needs}
 use native.Mathlib.Omega.{arith}
 use Rattle.text.specs.WroteLaws.{then}
@@ -6,14 +6,17 @@ use Rattle.print.specs.Monitor.{totalLine}
 use Rattle.print.proofs.monitor.put_total.Statement.{statement}
 use Rattle.print.proofs.monitor.put_total.Tie as tie
 
-slice-aggregate-put-named : tie.Need-slice-aggregate-put-named
-slice-aggregate-put-named c = search needs
+slice-aggregate-put-short-named : tie.Need-slice-aggregate-put-short-named
+slice-aggregate-put-short-named c = search needs
 
-put-named-requires : tie.Need-put-named-requires
-put-named-requires c κs = search needs
+put-short-named-requires : tie.Need-put-short-named-requires
+put-short-named-requires c κs = search needs
 
-put-field-requires : tie.Need-put-field-requires
-put-field-requires c κs = search needs
+put-short-field-requires : tie.Need-put-short-field-requires
+put-short-field-requires c κs = search needs
+
+put-short-field-requires-2 : tie.Need-put-short-field-requires-2
+put-short-field-requires-2 c κs = search needs
 
 put-byte-requires : tie.Need-put-byte-requires
 put-byte-requires c κs = search needs
@@ -25,17 +28,19 @@ returns : tie.Need-returns
 unfolding totalLine
 returns c =
     let b = c .before .before in
-    let f = b .before .before .before .before in
+    let e = b .before .before .before .before in
+    let f = e .before .before .before .before in
     let n = f .before .before .before .before in
-    (then (then (n .put-named .ensures .0) (f .put-field .ensures .0)) (b .put-byte .ensures), omega arith)
+    (then (then (then (n .put-short-named .ensures .0) (f .put-short-field .ensures .0)) (e .put-short-field2 .ensures .0)) (b .put-byte .ensures), omega arith)
 
 pub put-total-spec : {M : Type 1} → statement M
 put-total-spec =
     tie.close
     (tie.spec
-    slice-aggregate-put-named
-    put-named-requires
-    put-field-requires
+    slice-aggregate-put-short-named
+    put-short-named-requires
+    put-short-field-requires
+    put-short-field-requires-2
     put-byte-requires
     same-length
     returns)

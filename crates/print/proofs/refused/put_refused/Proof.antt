@@ -6,20 +6,14 @@ use Rattle.print.specs.Refused.{refusedLine}
 use Rattle.print.proofs.refused.put_refused.Statement.{statement}
 use Rattle.print.proofs.refused.put_refused.Tie as tie
 
-slice-aggregate-put-named : tie.Need-slice-aggregate-put-named
-slice-aggregate-put-named c = search needs
+slice-aggregate-put-short-named : tie.Need-slice-aggregate-put-short-named
+slice-aggregate-put-short-named c = search needs
 
-cast-put-named : tie.Need-cast-put-named
-cast-put-named c = search needs
+put-short-named-requires : tie.Need-put-short-named-requires
+put-short-named-requires c κs = search needs
 
-put-named-requires : tie.Need-put-named-requires
-put-named-requires c κs = search needs
-
-cast-put-field : tie.Need-cast-put-field
-cast-put-field c = search needs
-
-put-field-requires : tie.Need-put-field-requires
-put-field-requires c κs = search needs
+put-short-field-requires : tie.Need-put-short-field-requires
+put-short-field-requires c κs = search needs
 
 put-byte-requires : tie.Need-put-byte-requires
 put-byte-requires c κs = search needs
@@ -32,18 +26,16 @@ unfolding refusedLine
 returns c =
     let b = c .before .before in
     let f = b .before .before .before .before in
-    let n = f .before .before .before .before .before in
-    (then (then (n .put-named .ensures .0) (f .put-field .ensures .0)) (b .put-byte .ensures), omega arith)
+    let n = f .before .before .before .before in
+    (then (then (n .put-short-named .ensures .0) (f .put-short-field .ensures .0)) (b .put-byte .ensures), omega arith)
 
 pub put-refused-spec : {M : Type 1} → statement M
 put-refused-spec =
     tie.close
     (tie.spec
-    slice-aggregate-put-named
-    cast-put-named
-    put-named-requires
-    cast-put-field
-    put-field-requires
+    slice-aggregate-put-short-named
+    put-short-named-requires
+    put-short-field-requires
     put-byte-requires
     same-length
     returns)

@@ -16,17 +16,14 @@ abbrev μ-loop : tie.MeasureT-loop
 loop-holds : tie.Need-loop-holds Inv-loop μ-loop
 loop-holds c = fielded-start (omega arith)
 
-mul-wide : tie.Need-mul-wide Inv-loop μ-loop
-mul-wide c = search needs
+mul-put-short-field : tie.Need-mul-put-short-field Inv-loop μ-loop
+mul-put-short-field c = search needs
 
-shared-slice-read-wide : tie.Need-shared-slice-read-wide Inv-loop μ-loop
-shared-slice-read-wide c = search needs
+shared-slice-read-put-short-field : tie.Need-shared-slice-read-put-short-field Inv-loop μ-loop
+shared-slice-read-put-short-field c = search needs
 
-wide-requires : tie.Need-wide-requires Inv-loop μ-loop
-wide-requires c κs = search needs
-
-put-field-requires : tie.Need-put-field-requires Inv-loop μ-loop
-put-field-requires c κs = search needs
+put-short-field-requires : tie.Need-put-short-field-requires Inv-loop μ-loop
+put-short-field-requires c κs = search needs
 
 add-i : tie.Need-add-i Inv-loop μ-loop
 add-i c = search needs
@@ -50,10 +47,9 @@ put-fields-spec =
     Inv-loop
     μ-loop
     loop-holds
-    mul-wide
-    shared-slice-read-wide
-    wide-requires
-    put-field-requires
+    mul-put-short-field
+    shared-slice-read-put-short-field
+    put-short-field-requires
     add-i
     loop-less
     loop-again

@@ -11,7 +11,7 @@ use Rattle.rules.specs.CheckLaws.{accepted, between, is-accepted}
 use Rattle.monitor.specs.Zone.{minSigma, maxSigma}
 use Rattle.rules.proofs.Checked.{the-type}
 use Rattle.report.specs.Points.{monitorRoom}
-use Rattle.report.specs.MonitorReportLaws.{monitor-refused, rules-refused, sigma-refused, text-short, points-few, points-written}
+use Rattle.report.specs.MonitorReportLaws.{monitor-refused, rules-refused, sigma-refused, text-short, points-bench, points-few, points-written}
 use Rattle.report.proofs.monitors.monitor_report.Statement.{statement}
 use Rattle.report.proofs.monitors.monitor_report.Tie as tie
 
@@ -66,9 +66,10 @@ put-points-requires c κs =
     let fits = sym (f .sigma-fits .ensures) ∙ not-false (f .sigma-fits .result) (c .before .before .if2 .left) in
     let b = accepted (m .monitor-text .result .list) ok in
     let short = text-short (a .text .now) (a .out .now) (m .monitor-text .result) (m .monitor-text .ensures) (e .if1 .left) ok fits in
+    let bench = points-bench (a .text .now) (a .out .now) (m .monitor-text .result) (m .monitor-text .ensures) (e .if1 .left) ok fits in
     let few = points-few (a .text .now) (a .out .now) (m .monitor-text .result) (m .monitor-text .ensures) (e .if1 .left) ok fits in
     let size : length (a .out .now) ≡ monitorRoom = search needs in
-    ((b .1, b .2), (between minSigma maxSigma (m .monitor-text .result .sigma) fits, (short, omega (arith, few, short, size))))
+    ((b .1, b .2), (between minSigma maxSigma (m .monitor-text .result .sigma) fits, (short, (bench, omega (arith, few, short, size)))))
 
 returns-4 : tie.Need-returns-4
 returns-4 c =

@@ -1,0 +1,68 @@
+-- TO BELIEVE: the lines of printed bytes, those of them that are a node's, and what document 01's monitor program prints for one chart. Definitions.
+use Prim.Native.Nat.{ℕ}
+use mathlib.Core.Bool.{Bool, true, false, cond}
+use mathlib.Core.List.{List, [], _∷_, _++_, map}
+use lib.Dec.{eqb}
+use lib.ListN.{length}
+use Rattle.monitor.specs.ReferenceChart.{Answer, refused, quiet, signal}
+use Rattle.text.specs.Decimal.{decimal}
+use Rattle.text.specs.Format.{field}
+use Rattle.text.specs.Word.{comma, newline}
+use Rattle.print.specs.Monitor.{quietWord, signalWord, totalWord}
+use Rattle.report.specs.Points.{signalsIn}
+
+-- ---- lines
+
+-- a byte before the first line
+abbrev onto : ℕ → List (List ℕ) → List (List ℕ)
+onto b [] = (b ∷ []) ∷ []
+onto b (l ∷ ls) = (b ∷ l) ∷ ls
+
+-- the lines of bytes, each without its LF, which is 10
+unfoldable pub linesIn : List ℕ → List (List ℕ)
+linesIn [] = []
+linesIn (b ∷ bytes) = cond (eqb b 10) ([] ∷ linesIn bytes) (onto b (linesIn bytes))
+
+-- what stands before the first comma, which is 44, and what stands behind it
+unfoldable pub beforeComma : List ℕ → List ℕ
+beforeComma [] = []
+beforeComma (b ∷ line) = cond (eqb b 44) [] (b ∷ beforeComma line)
+
+unfoldable pub behindComma : List ℕ → List ℕ
+behindComma [] = []
+behindComma (b ∷ line) = cond (eqb b 44) line (behindComma line)
+
+unfoldable pub sameBytes : List ℕ → List ℕ → Bool
+sameBytes [] [] = true
+sameBytes [] (y ∷ ys) = false
+sameBytes (x ∷ xs) [] = false
+sameBytes (x ∷ xs) (y ∷ ys) = cond (eqb x y) (sameBytes xs ys) false
+
+-- what stands after the first word of a line is the node: the bytes between its first comma and the next
+unfoldable pub ofNode : ℕ → List (List ℕ) → List (List ℕ)
+ofNode node [] = []
+ofNode node (l ∷ ls) = cond (sameBytes (beforeComma (behindComma l)) (decimal node)) (l ∷ ofNode node ls) (ofNode node ls)
+
+-- the lines that are printed for a node, in their order
+unfoldable pub linesOf : ℕ → List ℕ → List (List ℕ)
+linesOf node bytes = ofNode node (linesIn bytes)
+
+-- a line with the node after its first word
+unfoldable pub withNode : ℕ → List ℕ → List ℕ
+withNode node l = beforeComma l ++ (field node ++ (comma ++ behindComma l))
+
+-- ---- document 01's lines for one chart
+
+-- quiet,n and signal,n,mask
+abbrev aloneLine : Answer → List ℕ
+aloneLine (refused n) = []
+aloneLine (quiet n) = quietWord ++ (field n ++ newline)
+aloneLine (signal n mask) = signalWord ++ (field n ++ (field mask ++ newline))
+
+unfoldable pub aloneLines : List Answer → List ℕ
+aloneLines [] = []
+aloneLines (a ∷ rest) = aloneLine a ++ aloneLines rest
+
+-- a line for each answer, then total,points,signals
+unfoldable pub aloneBytes : List Answer → List ℕ
+aloneBytes answers = aloneLines answers ++ (totalWord ++ (field (length answers) ++ (field (signalsIn answers) ++ newline)))
