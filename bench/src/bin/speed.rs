@@ -7,7 +7,7 @@ use bench::ring::{zone, Ring};
 use bench::shift::{self, weights_by};
 use bench::table_program::table_program;
 use bench::{duncan, large, lent, table, western_electric, Rule, CENTRED, IN_CONTROL, RARE, ZONES};
-use catrovindy::{shift_weights, Monitor, MAX_SHIFT, MONITOR_SIZE, TABLE_SIZE};
+use catrovindy::{shift_weights, Monitor, MAX_SHIFT, MAX_TEXT, MONITOR_SIZE, TABLE_SIZE};
 use std::hint::black_box;
 use std::time::Instant;
 
@@ -108,17 +108,16 @@ fn rule_lines() -> String {
     western_electric().iter().map(|r| format!("rule,{},{},{}\n", r.k, r.m, r.zones)).collect()
 }
 
-/// A text of nearly 65,536 bytes for the monitor: readings in control, from sixteen nodes as they come.
+/// A text of 65,536 bytes for the monitor: readings in control, from sixteen nodes as they come. The last reading has the digits that are left.
 fn monitor_text() -> Vec<u8> {
     let mut source = Source::new(11);
     let mut text = format!("chart,100,10\n{}", rule_lines());
-    loop {
-        let line = format!("point,{},{}\n", source.below(16), source.normal(100.0, 10.0).round());
-        if text.len() + line.len() > 65_536 {
-            return text.into_bytes();
-        }
-        text += &line;
+    while text.len() < MAX_TEXT - 18 {
+        text += &format!("point,{},{}\n", source.below(16), source.normal(100.0, 10.0).round());
     }
+    let left = MAX_TEXT - text.len() - "point,0,\n".len();
+    text += &format!("point,0,{}\n", "1".repeat(left));
+    text.into_bytes()
 }
 
 fn table_text() -> Vec<u8> {
@@ -128,7 +127,7 @@ fn table_text() -> Vec<u8> {
 
 fn programs() {
     let text = monitor_text();
-    assert_eq!(nodes(&text).len(), NODES, "points of every node");
+    assert_eq!((text.len(), nodes(&text).len()), (MAX_TEXT, NODES), "a full text with points of every node");
     assert_eq!(catrovindy::monitor_report(&text), monitor_program(&text), "the same lines");
     let mut out: Box<[u8; MONITOR_SIZE]> = vec![0; MONITOR_SIZE].try_into().expect("the size");
     let (ours, theirs) = turns(

@@ -69,8 +69,10 @@ module _ (s : List ℕ) (short : length s ≤ maxText) {c : ℤ} {d at : ℕ} (f
     off-bench l =
         let h = rw (found, read) at end in
         let b = rw (found, read) at l in
-        let ps = pointsAt (length s) s (afterRules (length s) s at) in
-        rw (found, read, le-leb (length s) maxText short, first, le-leb (length s) (afterPoints (length s) s (afterRules (length s) s at)) h, lt-ltb (benchPoints ps) (length ps) b)
+        let from = afterRules (length s) s at in
+        let ps = pointsAt (length s) s from in
+        let whole = le-leb (length s) (afterPoints (length s) s from) h in
+        rw (found, read, le-leb (length s) maxText short, first, whole, lt-ltb (benchPoints ps) (length ps) b)
 
     pub whole : p .count ≤ p .good
         → _≡_ {A = MonitorText} (record { refusal = notRefused; centre = c; sigma = d; list = r .list; points = r .next; count = p .count }) (monitorText s)
@@ -78,5 +80,7 @@ module _ (s : List ℕ) (short : length s ≤ maxText) {c : ℤ} {d at : ℕ} (f
     whole l =
         let h = rw (found, read) at end in
         let b = rw (found, read) at l in
-        let ps = pointsAt (length s) s (afterRules (length s) s at) in
-        rw (found, read, le-leb (length s) maxText short, first, le-leb (length s) (afterPoints (length s) s (afterRules (length s) s at)) h, le-ltb (benchPoints ps) (length ps) b)
+        let from = afterRules (length s) s at in
+        let ps = pointsAt (length s) s from in
+        let whole = le-leb (length s) (afterPoints (length s) s from) h in
+        rw (found, read, le-leb (length s) maxText short, first, whole, le-ltb (benchPoints ps) (length ps) b)

@@ -14,7 +14,7 @@ use Rattle.text.specs.LineLaws.{point-ahead}
 use Rattle.text.specs.Size.{minPoint}
 use Rattle.text.specs.Kind.{point, NotOf}
 use Rattle.parse.specs.declared.point_lines.PointsRead.{PointsRead}
-use Rattle.parse.specs.Readings.{nodeReading, pointsAt, afterPoints, pointsRead, benchPoints, benchMore, nodeCount}
+use Rattle.parse.specs.Readings.{pointsAt, afterPoints, pointsRead, benchPoints, benchMore, nodeCount}
 use Rattle.parse.specs.ReadingsLaws.{one-point, no-points}
 
 -- how many points come before the first bad node: those so far, where all of them do, and those behind them
@@ -46,7 +46,8 @@ points-start s at =
     }
 
 -- one point more, of this node
-bench-step : (n good node rest : ℕ) → good ≤ n → benchOver n good (cond (ltb node nodeCount) (suc rest) 0) ≡ benchOver (n + 1) (benchMore n good node) rest
+bench-step : (n good node rest : ℕ) → good ≤ n
+    → benchOver n good (cond (ltb node nodeCount) (suc rest) 0) ≡ benchOver (n + 1) (benchMore n good node) rest
 bench-step n good node rest h = go (ltb good n) refl (ltb node nodeCount)
   where
     go : (a : Bool) → ltb good n ≡ a → (b : Bool)

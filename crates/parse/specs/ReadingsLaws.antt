@@ -82,7 +82,8 @@ unfolding benchPoints OnBench
 all-bench [] h = tt
 all-bench (p ∷ ps) h = go (ltb (p .node) nodeCount) refl h (λ l. all-bench ps l)
   where
-    go : (b : Bool) → ltb (p .node) nodeCount ≡ b → suc (length ps) ≤ cond b (suc (benchPoints ps)) 0 → (length ps ≤ benchPoints ps → OnBench ps) → OnBench (p ∷ ps)
+    go : (b : Bool) → ltb (p .node) nodeCount ≡ b → suc (length ps) ≤ cond b (suc (benchPoints ps)) 0
+        → (length ps ≤ benchPoints ps → OnBench ps) → OnBench (p ∷ ps)
     go true e h f = (ltb-true _ _ e, f (omega arith))
     go false e h f = absurd (omega arith)
 
@@ -106,7 +107,8 @@ unfolding benchPoints OnBench
 first-off [] h = absurd (omega arith)
 first-off (p ∷ ps) h = go (ltb (p .node) nodeCount) refl h (λ l. first-off ps l)
   where
-    go : (b : Bool) → ltb (p .node) nodeCount ≡ b → cond b (suc (benchPoints ps)) 0 < suc (length ps) → (benchPoints ps < length ps → FirstOff ps) → FirstOff (p ∷ ps)
+    go : (b : Bool) → ltb (p .node) nodeCount ≡ b → cond b (suc (benchPoints ps)) 0 < suc (length ps)
+        → (benchPoints ps < length ps → FirstOff ps) → FirstOff (p ∷ ps)
     go true e h f =
         let r = f (omega arith) in
         record {
@@ -152,6 +154,7 @@ unfolding readingsOf
 readings-few node [] = omega arith
 readings-few node (p ∷ ps) = go (eqb (p .node) node) (readings-few node ps)
   where
-    go : (b : Bool) → length (readingsOf node ps) ≤ length ps → length (cond b (p .reading ∷ readingsOf node ps) (readingsOf node ps)) ≤ suc (length ps)
+    go : (b : Bool) → length (readingsOf node ps) ≤ length ps
+        → length (cond b (p .reading ∷ readingsOf node ps) (readingsOf node ps)) ≤ suc (length ps)
     go true h = omega arith
     go false h = omega arith

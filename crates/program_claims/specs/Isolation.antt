@@ -43,8 +43,12 @@ free-more rs (y ∷ zs) row z =
 
 one-by-one : (rs : List Rule) (centre : ℤ) (sigma : ℕ) → OneByOne (plainChart rs centre sigma)
 unfolding freeAnswers zonesOf
-one-by-one rs centre sigma =
-    (refl, λ xs x. let r = free-more rs (zonesOf centre sigma xs) [] _ in (r .0, ap (freeAnswers rs []) (zones-append centre sigma xs (x ∷ [])) ∙ r .1))
+one-by-one rs centre sigma = (
+  refl,
+  λ xs x.
+      let r = free-more rs (zonesOf centre sigma xs) [] _ in
+      (r .0, ap (freeAnswers rs []) (zones-append centre sigma xs (x ∷ [])) ∙ r .1),
+)
 
 -- ---- document 01's lines, and the node after each first word
 
@@ -62,12 +66,14 @@ module _ (k : ℕ) where
   alone-more (refused n ∷ answers) rest i = absurd (i .0)
   alone-more (quiet n ∷ answers) rest i =
       let more = aloneLines answers ++ rest in
-      ap (λ l. map (withNode k) (linesIn l)) (append-assoc (quietWord ++ (field n ++ newline)) (aloneLines answers) rest ∙ group1 quietWord (field n) newline more)
+      let line = quietWord ++ (field n ++ newline) in
+      ap (λ l. map (withNode k) (linesIn l)) (append-assoc line (aloneLines answers) rest ∙ group1 quietWord (field n) newline more)
       ∙ ap (map (withNode k)) (word-line quietWord (n ∷ []) more refl)
       ∙ rw (with-node quietWord (plain .0) k n [], alone-more answers rest (i .1))
   alone-more (signal n mask ∷ answers) rest i =
       let more = aloneLines answers ++ rest in
-      ap (λ l. map (withNode k) (linesIn l)) (append-assoc (signalWord ++ (field n ++ (field mask ++ newline))) (aloneLines answers) rest ∙ group2 signalWord (field n) (field mask) newline more)
+      let line = signalWord ++ (field n ++ (field mask ++ newline)) in
+      ap (λ l. map (withNode k) (linesIn l)) (append-assoc line (aloneLines answers) rest ∙ group2 signalWord (field n) (field mask) newline more)
       ∙ ap (map (withNode k)) (word-line signalWord (n ∷ mask ∷ []) more refl)
       ∙ rw (with-node signalWord (plain .1) k n (mask ∷ []), alone-more answers rest (i .1))
 
@@ -92,7 +98,8 @@ unfolding OnBench readingsOf
 no-readings k l [] o = refl
 no-readings k l (p ∷ ps) o = rw (ne-eqb (p .node) k (λ q. omega (arith, o .0)), no-readings k l ps (o .1))
 
-own-total : (k : ℕ) (answers : List Answer) → (answers ≡ [] → ⊥) → totalsOf k (nodeTotal k answers) ≡ totalBody k (length answers) (signalsIn answers) ∷ []
+own-total : (k : ℕ) (answers : List Answer) → (answers ≡ [] → ⊥)
+    → totalsOf k (nodeTotal k answers) ≡ totalBody k (length answers) (signalsIn answers) ∷ []
 unfolding totalsOf
 own-total k [] n = absurd (n refl)
 own-total k (a ∷ rest) n = rw (eq-eqb k k refl)
@@ -106,18 +113,23 @@ some-answers rs centre sigma (x ∷ xs) n e = let z : _≡_ {A = ℕ} 0 1 = cc i
 abbrev linesBy : List Rule → ℤ → ℕ → ℕ → List ℤ → List (List ℕ)
 linesBy rs centre sigma k xs = bodies k (plainChart rs centre sigma xs) ++ totalsOf k (nodeTotal k (plainChart rs centre sigma xs))
 
-module _ {centre : ℤ} {sigma : ℕ} {rs : List Rule} {ps : List NodeReading} {printed : List ℕ} (o : OnBench ps) (t : MonitorPrints centre sigma rs ps printed) (k : ℕ) where
+module _ {centre : ℤ} {sigma : ℕ} {rs : List Rule} {ps : List NodeReading} {printed : List ℕ}
+    (o : OnBench ps) (t : MonitorPrints centre sigma rs ps printed) (k : ℕ) where
   below : k < nodeCount → linesOf k printed ≡ linesBy rs centre sigma k (readingsOf k ps)
   below l = ap (linesOf k) (t .lines) ∙ node-lines (plainChart rs centre sigma) (one-by-one rs centre sigma) k ps (plain-said rs centre sigma ps) l
 
   beyond : nodeCount ≤ k → linesOf k printed ≡ []
-  beyond l = ap (linesOf k) (t .lines) ∙ no-lines (plainChart rs centre sigma) (one-by-one rs centre sigma) k ps (plain-said rs centre sigma ps) l (no-readings k l ps o)
+  beyond l =
+      ap (linesOf k) (t .lines)
+      ∙ no-lines (plainChart rs centre sigma) (one-by-one rs centre sigma) k ps (plain-said rs centre sigma ps) l (no-readings k l ps o)
 
   -- A node with a point: its lines are those that document 01's program prints for its readings alone, with the node after the first word.
-  pub node-alone : (readingsOf k ps ≡ [] → ⊥) → linesOf k printed ≡ map (withNode k) (linesIn (aloneBytes (plainChart rs centre sigma (readingsOf k ps))))
+  pub node-alone : (readingsOf k ps ≡ [] → ⊥)
+      → linesOf k printed ≡ map (withNode k) (linesIn (aloneBytes (plainChart rs centre sigma (readingsOf k ps))))
   node-alone n = go (ltb k nodeCount) refl
     where
-      go : (b : Bool) → ltb k nodeCount ≡ b → linesOf k printed ≡ map (withNode k) (linesIn (aloneBytes (plainChart rs centre sigma (readingsOf k ps))))
+      go : (b : Bool) → ltb k nodeCount ≡ b
+          → linesOf k printed ≡ map (withNode k) (linesIn (aloneBytes (plainChart rs centre sigma (readingsOf k ps))))
       go true e =
           let xs = readingsOf k ps in
           below (ltb-true _ _ e)
@@ -192,6 +204,7 @@ no-totals rs centre sigma zero = refl
 no-totals rs centre sigma (suc n) = rw (no-totals rs centre sigma n)
 
 -- An accepted text with no points prints nothing.
-pub no-points-nothing : {s : List ℕ} {centre : ℤ} {sigma : ℕ} {rs : List Rule} → Accepted s → MonitorTextIs s centre sigma rs [] → printedBytes (monitorPrinted s) ≡ []
+pub no-points-nothing : {s : List ℕ} {centre : ℤ} {sigma : ℕ} {rs : List Rule} → Accepted s → MonitorTextIs s centre sigma rs []
+    → printedBytes (monitorPrinted s) ≡ []
 unfolding benchBytes benchAnswers answerLines totalLines
 no-points-nothing {s} {centre} {sigma} {rs} a is = accepted-prints a is .1 .lines ∙ rw (no-totals rs centre sigma nodeCount)

@@ -30,7 +30,7 @@ use Rattle.rules.specs.Refusal.{badLine, tooLong, badNode}
 use Rattle.text.specs.Size.{maxText}
 use Rattle.parse.specs.Rules.{rulesAt, afterRules, ruleListOf}
 use Rattle.parse.specs.RulesLaws.{rules-end, active-rules}
-use Rattle.parse.specs.Readings.{NodeReading, pointsAt, afterPoints, nodeCount, OnBench, benchPoints}
+use Rattle.parse.specs.Readings.{NodeReading, pointsAt, afterPoints, OnBench, benchPoints}
 use Rattle.parse.specs.ReadingsLaws.{points-end, all-bench, bench-all, first-off, off-place}
 use Rattle.parse.specs.MonitorText.{refusedMonitor, readMonitor, monitorBy, monitorEnd, monitorText, monitorPoints}
 use Rattle.program_claims.specs.Texts.{chartLine, ruleLines, RulesInRange, pointLine, pointLines, PointsInRange}
@@ -41,7 +41,8 @@ use Rattle.program_claims.specs.LinesLaws.{begins-read, begins-not, rule
 use Rattle.program_claims.specs.LinesLaws.{points-spans, points-read, newlines-points}
 
 -- the lines of a chart, rules and points
-front-lines : (c : ℤ) (d : ℕ) (rs : List Rule) (ps : List NodeReading) → newlines (bytesOf (chartLine c d) ++ ruleLines rs ++ pointLines ps) ≡ 1 + length rs + length ps
+front-lines : (c : ℤ) (d : ℕ) (rs : List Rule) (ps : List NodeReading)
+    → newlines (bytesOf (chartLine c d) ++ ruleLines rs ++ pointLines ps) ≡ 1 + length rs + length ps
 front-lines c d rs ps =
     omega (
       arith,
@@ -202,7 +203,8 @@ monitor-read {s} {c} {d} {rs} {ps} t o =
     (f .at, e, ap (λ (m : MonitorText). pointsAt (length s) s (m .points)) e ∙ f .points)
 
 -- A text with a point whose node is none of the bench's is refused by 19, at the first such point.
-pub monitor-off-bench : {s : List ℕ} {c : ℤ} {d : ℕ} {rs : List Rule} {place : ℕ} → OffBench s c d rs place → monitorText s ≡ refusedMonitor (badNode place)
+pub monitor-off-bench : {s : List ℕ} {c : ℤ} {d : ℕ} {rs : List Rule} {place : ℕ} → OffBench s c d rs place
+    → monitorText s ≡ refusedMonitor (badNode place)
 unfolding monitorText monitorEnd monitorBy
 monitor-off-bench {s} {c} {d} {rs} {place} o =
     let f = found (o .text) in
@@ -223,7 +225,8 @@ monitor-off-bench {s} {c} {d} {rs} {place} o =
     )
 
 -- A text is the lines of at most one chart, one list of rules and one list of points.
-pub monitor-text-once : {s : List ℕ} {c c′ : ℤ} {d d′ : ℕ} {rs rs′ : List Rule} {ps ps′ : List NodeReading} → MonitorTextIs s c d rs ps → MonitorTextIs s c′ d′ rs′ ps′
+pub monitor-text-once : {s : List ℕ} {c c′ : ℤ} {d d′ : ℕ} {rs rs′ : List Rule} {ps ps′ : List NodeReading} → MonitorTextIs s c d rs ps
+    → MonitorTextIs s c′ d′ rs′ ps′
     → (c ≡ c′) × (d ≡ d′) × (rs ≡ rs′) × (ps ≡ ps′)
 monitor-text-once t t′ =
     let f = found t in

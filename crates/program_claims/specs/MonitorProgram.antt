@@ -19,9 +19,8 @@ use Rattle.rules.specs.CheckLaws.{between}
 use Rattle.rules.specs.NumbersLaws.{list-number}
 use Rattle.monitor.specs.Zone.{minSigma, maxSigma}
 use Rattle.rules.specs.Bounds.{maxNumber}
-use Rattle.monitor.specs.Step.{freshMonitor}
 use Rattle.monitor.specs.ReferenceChart.{quiet, signal, rowMask, charted}
-use Rattle.monitor.specs.Calls.{Said, monitorAnswers, EachAnswer}
+use Rattle.monitor.specs.Calls.{Said, EachAnswer}
 use Rattle.monitor.specs.Agreement.{agreement}
 use Rattle.parse.specs.declared.monitors.MonitorText.{MonitorText}
 use Rattle.parse.specs.Rules.{ruleListOf}
@@ -57,7 +56,8 @@ module _ (l : RuleList) (ok : checkOf l ≡ Accepted) (centre : ℤ) (sigma : �
   free : (xs : List ℤ) → length xs ≤ maxNumber → readingAnswers l centre sigma xs ≡ plainChart (activeRules l) centre sigma xs
   free xs few = monitor-free l ok (zonesOf centre sigma xs) (zones-exist centre sigma xs) (omega (arith, zones-length centre sigma xs))
 
-  points-printed : (ps : List NodeReading) → length ps ≤ maxNumber → MonitorPrints centre sigma (activeRules l) ps (benchBytes (readingAnswers l centre sigma) ps)
+  points-printed : (ps : List NodeReading) → length ps ≤ maxNumber
+      → MonitorPrints centre sigma (activeRules l) ps (benchBytes (readingAnswers l centre sigma) ps)
   points-printed ps few =
       record {
         lines = bytes-same {n = maxNumber} free ps few;
@@ -67,7 +67,8 @@ module _ (l : RuleList) (ok : checkOf l ≡ Accepted) (centre : ℤ) (sigma : �
         said = λ node. free-said (activeRules l) (zonesOf centre sigma (readingsOf node ps)) [];
       }
 
-same-points : {centre : ℤ} {sigma : ℕ} {rs rs′ : List Rule} {ps : List NodeReading} {printed : List ℕ} → rs ≡ rs′ → MonitorPrints centre sigma rs ps printed
+same-points : {centre : ℤ} {sigma : ℕ} {rs rs′ : List Rule} {ps : List NodeReading} {printed : List ℕ} → rs ≡ rs′
+    → MonitorPrints centre sigma rs ps printed
     → MonitorPrints centre sigma rs′ ps printed
 same-points p t = rw (← p) t
 
@@ -77,7 +78,8 @@ outside low high x e i =
     let z : _≡_ {A = ℕ} 0 1 = cc in
     omega arith
 
-module _ (s : List ℕ) (centre : ℤ) (sigma : ℕ) (rs : List Rule) (ps : List NodeReading) (is : MonitorTextIs s centre sigma rs ps) (o : OnBench ps) (few : length ps ≤ maxNumber) where
+module _ (s : List ℕ) (centre : ℤ) (sigma : ℕ) (rs : List Rule) (ps : List NodeReading)
+    (is : MonitorTextIs s centre sigma rs ps) (o : OnBench ps) (few : length ps ≤ maxNumber) where
   -- the lines, if nothing is refused
   shown : List ℕ
   shown = benchBytes (readingAnswers (ruleListOf rs) centre sigma) ps
@@ -97,7 +99,8 @@ module _ (s : List ℕ) (centre : ℤ) (sigma : ℕ) (rs : List Rule) (ps : List
   by-check (Refused x) e = monitor-refuses (x .number) (x .place) refl (bad-rules centre sigma rs ps x is o e (list-number (ruleListOf rs) x e))
 
 -- a text has few points
-text-few : {s : List ℕ} {centre : ℤ} {sigma : ℕ} {rs : List Rule} {ps : List NodeReading} → MonitorTextIs s centre sigma rs ps → OnBench ps → length ps ≤ maxNumber
+text-few : {s : List ℕ} {centre : ℤ} {sigma : ℕ} {rs : List Rule} {ps : List NodeReading} → MonitorTextIs s centre sigma rs ps → OnBench ps
+    → length ps ≤ maxNumber
 text-few {s} {centre} {sigma} {rs} {ps} t o =
     let m = monitor-read t o in
     omega (arith, points-fit (length s) s (monitorText s .points), ap length (m .2), t .short)
@@ -117,7 +120,8 @@ monitor-program s = go (monitorText s) (monitor-reading s) (monitorPoints s) (λ
     go t (read c d rs at ps i o e) qs f = rw (f c d rs ps i o) (by-check s c d rs ps i o (text-few i o) (checkOf (ruleListOf rs)) refl)
 
 -- The other way round: a text that is the lines of a chart, rules and points which are in bounds is not refused.
-pub monitor-printed : {s : List ℕ} {c : ℤ} {d : ℕ} {rs : List Rule} {ps : List NodeReading} → MonitorTextIs s c d rs ps → OnBench ps → checkOf (ruleListOf rs) ≡ Accepted
+pub monitor-printed : {s : List ℕ} {c : ℤ} {d : ℕ} {rs : List Rule} {ps : List NodeReading} → MonitorTextIs s c d rs ps → OnBench ps
+    → checkOf (ruleListOf rs) ≡ Accepted
     → (minSigma ≤ d) × (d ≤ maxSigma) → MonitorPrints c d rs ps (printedBytes (monitorPrinted s))
 unfolding refusedMonitor readMonitor
 monitor-printed {s} {c} {d} {rs} {ps} is o ok bounds = go (monitor-program s)
@@ -125,7 +129,8 @@ monitor-printed {s} {c} {d} {rs} {ps} is o ok bounds = go (monitor-program s)
     clash : {A : Type 0} {t : MonitorText} → monitorText s ≡ t → (t .refusal .number ≡ 0 → ⊥) → A
     clash e n = absurd (n (ap (λ (t : MonitorText). t .refusal .number) (sym e ∙ monitor-read is o .1)))
 
-    checked : {c′ : ℤ} {d′ : ℕ} {rs′ : List Rule} {ps′ : List NodeReading} {x : Refusal} → MonitorTextIs s c′ d′ rs′ ps′ → checkOf (ruleListOf rs′) ≡ Refused x → ⊥
+    checked : {c′ : ℤ} {d′ : ℕ} {rs′ : List Rule} {ps′ : List NodeReading} {x : Refusal} → MonitorTextIs s c′ d′ rs′ ps′
+        → checkOf (ruleListOf rs′) ≡ Refused x → ⊥
     checked {c′} {d′} {rs′} {ps′} {x} is′ e =
         let q : checkOf (ruleListOf rs) ≡ Refused x = rw (monitor-text-once is is′ .2) e in
         let z : _≡_ {A = ℕ} 0 1 = cc in

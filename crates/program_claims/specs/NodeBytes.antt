@@ -2,26 +2,25 @@
 use Prim.Native.Nat.{ℕ, zero, suc, _≤_, _<_}
 use mathlib.Core.Path.{_≡_, refl, sym, ap, _∙_}
 use mathlib.Core.Bool.{Bool, true, false, cond}
-use mathlib.Core.List.{List, [], _∷_, _++_, map, append-assoc, append-nil}
+use mathlib.Core.List.{List, [], _∷_, _++_, append-assoc, append-nil}
 use native.Mathlib.Decide.{ℕ-discrete}
 use native.Mathlib.Omega.{arith}
 use lib.Dec.{eqb}
-use lib.ListN.{length}
 use lib.IntN.{ℤ}
 use borrow.Author.Tests.{eq-eqb, ne-eqb}
 use Rattle.monitor.specs.ReferenceChart.{Answer, refused, quiet, signal}
-use Rattle.monitor.specs.Calls.{Said, EachAnswer}
-use Rattle.text.specs.Format.{field, fields}
-use Rattle.text.specs.Word.{newline, newlines}
-use Rattle.parse.specs.Readings.{NodeReading, nodeReading, nodeCount, readingsOf}
-use Rattle.parse.specs.ReadingsLaws.{readings-append, reading-own, reading-other}
-use Rattle.print.specs.Monitor.{quietWord, signalWord, totalWord, quietLine, signalLine, totalLine}
-use Rattle.report.specs.Points.{NodeAnswer, nodeAnswer, NodeTotal, lastAnswer, benchAnswers, signalsIn, nodeTotal, benchTotals, lineOf, answerLines, totalLines, benchBytes}
+use Rattle.monitor.specs.Calls.{Said}
+use Rattle.text.specs.Format.{fields}
+use Rattle.text.specs.Word.{newlines}
+use Rattle.parse.specs.Readings.{NodeReading, nodeCount, readingsOf}
+use Rattle.parse.specs.ReadingsLaws.{readings-append, reading-other}
+use Rattle.print.specs.Monitor.{quietWord, signalWord, totalWord, totalLine}
+use Rattle.report.specs.Points.{NodeAnswer, NodeTotal, lastAnswer, benchAnswers, nodeTotal, benchTotals, lineOf, answerLines, totalLines, benchBytes}
 use Rattle.report.specs.PointsLaws.{last-more}
 use Rattle.program_claims.specs.LinesOnce.{quiet-shape, signal-shape, total-shape}
 use Rattle.program_claims.specs.PrintedOnce.{EachSaid}
-use Rattle.program_claims.specs.NodeLines.{linesIn, ofNode, linesOf, withNode, aloneLines, aloneBytes}
-use Rattle.program_claims.specs.NodeLinesLaws.{word-line, NoComma, own-line, other-line, with-node}
+use Rattle.program_claims.specs.NodeLines.{linesIn, ofNode, linesOf}
+use Rattle.program_claims.specs.NodeLinesLaws.{word-line, NoComma, own-line, other-line}
 
 -- ---- the lines of a node's answers and total, without their LFs
 
@@ -62,17 +61,21 @@ module _ (k : ℕ) (word : List ℕ) (p : NoComma word) (e : newlines word ≡ 0
       go (yes q) = rw (eq-eqb node k q) (own-line word p k node n ns q (linesIn rest))
       go (no d) = rw (ne-eqb node k d) (other-line word p k node n ns d (linesIn rest))
 
-answer-of : (k node : ℕ) (a : Answer) → Said a → (rest : List ℕ) → linesOf k (lineOf node a ++ rest) ≡ cond (eqb node k) (body node a ∷ linesOf k rest) (linesOf k rest)
+answer-of : (k node : ℕ) (a : Answer) → Said a → (rest : List ℕ)
+    → linesOf k (lineOf node a ++ rest) ≡ cond (eqb node k) (body node a ∷ linesOf k rest) (linesOf k rest)
 unfolding newlines
 answer-of k node (refused n) i rest = absurd i
 answer-of k node (quiet n) i rest = ap (linesOf k) (quiet-shape node n rest) ∙ line-of k quietWord (plain .0) refl node n [] rest
-answer-of k node (signal n mask) i rest = ap (linesOf k) (signal-shape node n mask rest) ∙ line-of k signalWord (plain .1) refl node n (mask ∷ []) rest
+answer-of k node (signal n mask) i rest =
+    ap (linesOf k) (signal-shape node n mask rest) ∙ line-of k signalWord (plain .1) refl node n (mask ∷ []) rest
 
-total-of : (k node n m : ℕ) (rest : List ℕ) → linesOf k (totalLine node n m ++ rest) ≡ cond (eqb node k) (totalBody node n m ∷ linesOf k rest) (linesOf k rest)
+total-of : (k node n m : ℕ) (rest : List ℕ)
+    → linesOf k (totalLine node n m ++ rest) ≡ cond (eqb node k) (totalBody node n m ∷ linesOf k rest) (linesOf k rest)
 unfolding newlines
 total-of k node n m rest = ap (linesOf k) (total-shape node n m rest) ∙ line-of k totalWord (plain .2) refl node n (m ∷ []) rest
 
-answers-of : (k : ℕ) (os : List NodeAnswer) (rest : List ℕ) → EachSaid os → linesOf k (answerLines os ++ rest) ≡ bodies k (answersOf k os) ++ linesOf k rest
+answers-of : (k : ℕ) (os : List NodeAnswer) (rest : List ℕ) → EachSaid os
+    → linesOf k (answerLines os ++ rest) ≡ bodies k (answersOf k os) ++ linesOf k rest
 unfolding answerLines EachSaid answersOf bodies
 answers-of k [] rest i = refl
 answers-of k (a ∷ os) rest i =
@@ -138,7 +141,8 @@ own-last : (k node : ℕ) → node ≡ k → (answers before : List Answer) (a :
 unfolding answersOf
 own-last k node q answers before a e rest = rw (e, last-more node before a, eq-eqb node k q)
 
-other-last : (k node : ℕ) (answers : List Answer) (rest : List NodeAnswer) → (node ≡ k → ⊥) → answersOf k (lastAnswer node answers ++ rest) ≡ answersOf k rest
+other-last : (k node : ℕ) (answers : List Answer) (rest : List NodeAnswer) → (node ≡ k → ⊥)
+    → answersOf k (lastAnswer node answers ++ rest) ≡ answersOf k rest
 unfolding answersOf lastAnswer
 other-last k node [] rest d = refl
 other-last k node (a ∷ []) rest d = rw (ne-eqb node k d)
@@ -149,7 +153,8 @@ unfolding readingsOf
 own-reading k p q = rw (eq-eqb (p .node) k q)
 
 module _ (chart : List ℤ → List Answer) (one : OneByOne chart) (k : ℕ) where
-  own-answers : (before ps : List NodeReading) → chart (readingsOf k before) ++ answersOf k (benchAnswers chart before ps) ≡ chart (readingsOf k (before ++ ps))
+  own-answers : (before ps : List NodeReading)
+      → chart (readingsOf k before) ++ answersOf k (benchAnswers chart before ps) ≡ chart (readingsOf k (before ++ ps))
   unfolding benchAnswers answersOf
   own-answers before [] = append-nil (chart (readingsOf k before)) ∙ ap (λ l. chart (readingsOf k l)) (sym (append-nil before))
   own-answers before (p ∷ ps) =
@@ -170,8 +175,9 @@ module _ (chart : List ℤ → List Answer) (one : OneByOne chart) (k : ℕ) whe
           ∙ sym (append-assoc (chart (readingsOf k before)) (a .0 ∷ []) (answersOf k (benchAnswers chart (before ++ (p ∷ [])) ps)))
           ∙ (rw more at r)
       go (no d) r =
+          let none = reading-other k (p .node) (p .reading) d in
           let same : readingsOf k (before ++ (p ∷ [])) ≡ readingsOf k before =
-          readings-append k before (p ∷ []) ∙ ap (λ (l : List ℤ). readingsOf k before ++ l) (reading-other k (p .node) (p .reading) d) ∙ append-nil (readingsOf k before) in
+          readings-append k before (p ∷ []) ∙ ap (λ (l : List ℤ). readingsOf k before ++ l) none ∙ append-nil (readingsOf k before) in
           rw (other-last k (p .node) (chart (readingsOf (p .node) (before ++ (p ∷ [])))) (benchAnswers chart (before ++ (p ∷ [])) ps) d) (rw same at r)
 
   bench-of : (ps : List NodeReading) → answersOf k (benchAnswers chart [] ps) ≡ chart (readingsOf k ps)
@@ -186,7 +192,8 @@ module _ (chart : List ℤ → List Answer) (one : OneByOne chart) (k : ℕ) whe
       answers-of k (benchAnswers chart [] ps) (totalLines (benchTotals chart ps nodeCount)) i
       ∙ rw (bench-of ps, totals-of k (benchTotals chart ps nodeCount), totals-own chart ps k nodeCount l)
 
-  pub no-lines : (ps : List NodeReading) → EachSaid (benchAnswers chart [] ps) → nodeCount ≤ k → readingsOf k ps ≡ [] → linesOf k (benchBytes chart ps) ≡ []
+  pub no-lines : (ps : List NodeReading) → EachSaid (benchAnswers chart [] ps) → nodeCount ≤ k → readingsOf k ps ≡ []
+      → linesOf k (benchBytes chart ps) ≡ []
   unfolding benchBytes bodies
   no-lines ps i l e =
       answers-of k (benchAnswers chart [] ps) (totalLines (benchTotals chart ps nodeCount)) i

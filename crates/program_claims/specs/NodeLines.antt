@@ -1,7 +1,7 @@
 -- TO BELIEVE: the lines of printed bytes, those of them that are a node's, and what document 01's monitor program prints for one chart. Definitions.
 use Prim.Native.Nat.{ℕ}
 use mathlib.Core.Bool.{Bool, true, false, cond}
-use mathlib.Core.List.{List, [], _∷_, _++_, map}
+use mathlib.Core.List.{List, [], _∷_, _++_}
 use lib.Dec.{eqb}
 use lib.ListN.{length}
 use Rattle.monitor.specs.ReferenceChart.{Answer, refused, quiet, signal}

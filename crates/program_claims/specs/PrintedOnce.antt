@@ -201,7 +201,8 @@ no-total xs k (signal n mask) i (t ∷ ts) e = let z : _≡_ {A = ℕ} 115 116 =
 same-total : (t u : NodeTotal) → t .node ≡ u .node → t .points ≡ u .points → t .signals ≡ u .signals → t ≡ u
 same-total t u a b c = same (t .node) (t .points) (t .signals) (u .node) (u .points) (u .signals) a b c
   where
-    same : (k n m k′ n′ m′ : ℕ) → k ≡ k′ → n ≡ n′ → m ≡ m′ → _≡_ {A = NodeTotal} (record { node = k; points = n; signals = m }) (record { node = k′; points = n′; signals = m′ })
+    same : (k n m k′ n′ m′ : ℕ) → k ≡ k′ → n ≡ n′ → m ≡ m′
+        → _≡_ {A = NodeTotal} (record { node = k; points = n; signals = m }) (record { node = k′; points = n′; signals = m′ })
     same k n m k′ n′ m′ a b c = rw (a, b, c)
 
 same-answer : (a b : NodeAnswer) → a .node ≡ b .node → a .answer ≡ b .answer → a ≡ b
@@ -230,8 +231,10 @@ answers-once [] (b ∷ bs) ts us i j e =
 answers-once (a ∷ os) [] ts us i j e =
     absurd (no-total _ (a .node) (a .answer) (i .0) us (sym (append-assoc (lineOf (a .node) (a .answer)) (answerLines os) (totalLines ts)) ∙ e))
 answers-once (a ∷ os) (b ∷ bs) ts us i j e =
+    let x = lineOf (a .node) (a .answer) in
+    let y = lineOf (b .node) (b .answer) in
     let o = one-once (a .node) (b .node) (a .answer) (b .answer) (i .0) (j .0)
-    (sym (append-assoc (lineOf (a .node) (a .answer)) (answerLines os) (totalLines ts)) ∙ e ∙ append-assoc (lineOf (b .node) (b .answer)) (answerLines bs) (totalLines us)) in
+    (sym (append-assoc x (answerLines os) (totalLines ts)) ∙ e ∙ append-assoc y (answerLines bs) (totalLines us)) in
     let r = answers-once os bs ts us (i .1) (j .1) (o .2) in
     let one = same-answer a b (o .0) (o .1) in
     let rest = r .0 in
@@ -249,7 +252,8 @@ unfolding EachSaid
 said-append [] ys i j = j
 said-append (a ∷ xs) ys i j = (i .0, said-append xs ys (i .1) j)
 
-bench-said : (chart : List ℤ → List Answer) → ((xs : List ℤ) → EachAnswer Said (chart xs)) → (before ps : List NodeReading) → EachSaid (benchAnswers chart before ps)
+bench-said : (chart : List ℤ → List Answer) → ((xs : List ℤ) → EachAnswer Said (chart xs)) → (before ps : List NodeReading)
+    → EachSaid (benchAnswers chart before ps)
 unfolding EachSaid benchAnswers
 bench-said chart f before [] = tt
 bench-said chart f before (p ∷ ps) =
@@ -264,20 +268,23 @@ lines-not-refused : (os : List NodeAnswer) (ts : List NodeTotal) (n p : ℕ) →
 unfolding answerLines EachSaid quietLine signalLine refusedLine totalLines totalLine
 lines-not-refused [] [] n p i e = let z : _≡_ {A = ℕ} 0 114 = ap (λ l. getD l 0 0) e in omega arith
 lines-not-refused [] (t ∷ ts) n p i e = let z : _≡_ {A = ℕ} 116 114 = ap (λ l. getD l 0 0) e in omega arith
-lines-not-refused (a ∷ os) ts n p i e = go _ (a .node) (a .answer) (i .0) (sym (append-assoc (lineOf (a .node) (a .answer)) (answerLines os) (totalLines ts)) ∙ e)
+lines-not-refused (a ∷ os) ts n p i e =
+    go _ (a .node) (a .answer) (i .0) (sym (append-assoc (lineOf (a .node) (a .answer)) (answerLines os) (totalLines ts)) ∙ e)
   where
     go : (xs : List ℕ) (k : ℕ) (b : Answer) → Said b → lineOf k b ++ xs ≡ refusedLine n p → ⊥
     go xs k (refused m) i e = i
     go xs k (quiet m) i e = let z : _≡_ {A = ℕ} 113 114 = ap (λ l. getD l 0 0) e in omega arith
     go xs k (signal m mask) i e = let z : _≡_ {A = ℕ} 115 114 = ap (λ l. getD l 0 0) e in omega arith
 
-pub bench-not-refused : (rs : List Rule) (centre : ℤ) (sigma : ℕ) (ps : List NodeReading) (n p : ℕ) → benchBytes (plainChart rs centre sigma) ps ≡ refusedLine n p → ⊥
+pub bench-not-refused : (rs : List Rule) (centre : ℤ) (sigma : ℕ) (ps : List NodeReading) (n p : ℕ)
+    → benchBytes (plainChart rs centre sigma) ps ≡ refusedLine n p → ⊥
 unfolding benchBytes
 bench-not-refused rs centre sigma ps n p e = lines-not-refused _ _ n p (plain-said rs centre sigma ps) e
 
 -- Whoever reads the monitor program's output as the lines of any answers and any totals, each with a node, reads those of each node's plain chart,
 -- for the points whose lines the text has.
-pub monitor-read-off : (s : List ℕ) (os : List NodeAnswer) (ts : List NodeTotal) → EachSaid os → printedBytes (monitorPrinted s) ≡ answerLines os ++ totalLines ts
+pub monitor-read-off : (s : List ℕ) (os : List NodeAnswer) (ts : List NodeTotal) → EachSaid os
+    → printedBytes (monitorPrinted s) ≡ answerLines os ++ totalLines ts
     → (centre : ℤ) × (sigma : ℕ) × (rs : List Rule) × (ps : List NodeReading) × MonitorTextIs s centre sigma rs ps
     × (os ≡ benchAnswers (plainChart rs centre sigma) [] ps) × (ts ≡ benchTotals (plainChart rs centre sigma) ps nodeCount)
 unfolding benchBytes

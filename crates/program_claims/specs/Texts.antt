@@ -104,7 +104,8 @@ pub data TableStops : List ℕ → List ℕ → Type 0 where
 -- the same of a monitor text; a rule can come next only where there are no points yet
 pub data MonitorStops : List ℕ → List ℕ → Type 0 where
   no-chart : {rest : List ℕ} → (Begins chart rest → ⊥) → MonitorStops [] rest
-  no-point : {rest : List ℕ} (centre : ℤ) (sigma : ℕ) (rs : List Rule) (ps : List NodeReading) → InRange (chartLine centre sigma) → RulesInRange rs → PointsInRange ps
+  no-point : {rest : List ℕ} (centre : ℤ) (sigma : ℕ) (rs : List Rule) (ps : List NodeReading) → InRange (chartLine centre sigma)
+      → RulesInRange rs → PointsInRange ps
       → (rest ≡ [] → ⊥) → (ps ≡ [] → Begins rule rest → ⊥) → (Begins point rest → ⊥)
       → MonitorStops (bytesOf (chartLine centre sigma) ++ ruleLines rs ++ pointLines ps) rest
 
@@ -121,6 +122,7 @@ pub data MonitorReading (s : List ℕ) : MonitorText → Type 0 where
   too-long : maxText < length s → MonitorReading s (refusedMonitor tooLong)
   stopped : (front rest : List ℕ) (place : ℕ) → length s ≤ maxText → s ≡ front ++ rest → MonitorStops front rest → place ≡ 1 + newlines front
       → MonitorReading s (refusedMonitor (badLine place))
-  off-bench : (centre : ℤ) (sigma : ℕ) (rs : List Rule) (place : ℕ) → OffBench s centre sigma rs place → MonitorReading s (refusedMonitor (badNode place))
+  off-bench : (centre : ℤ) (sigma : ℕ) (rs : List Rule) (place : ℕ) → OffBench s centre sigma rs place
+      → MonitorReading s (refusedMonitor (badNode place))
   read : (centre : ℤ) (sigma : ℕ) (rs : List Rule) (at : ℕ) (ps : List NodeReading) → MonitorTextIs s centre sigma rs ps → OnBench ps
       → at ≡ length (bytesOf (chartLine centre sigma) ++ ruleLines rs) → MonitorReading s (readMonitor centre sigma rs at ps)

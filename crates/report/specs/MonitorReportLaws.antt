@@ -25,10 +25,9 @@ use Rattle.monitor.specs.Calls.{Said, EachAnswer}
 use Rattle.monitor.specs.Agreement.{no-refused-call}
 use Rattle.monitor.specs.Take.{takenAnswers}
 use Rattle.monitor.specs.TakeLaws.{fresh-valid, taken-answers}
-use Rattle.text.specs.declared.lines.Line.{Line}
-use Rattle.text.specs.declared.lines.Line.the-variants.{Weights, Rule as RuleLine, Horizon, Chart, Point, Shift, Other}
 use Rattle.text.specs.Line.{lineAt}
 use Rattle.text.specs.OnLine.{onChart}
+use Rattle.text.specs.KindLaws.{chart-or-none, chart-passed}
 use Rattle.text.specs.Wrote.{Wrote}
 use Rattle.parse.specs.Rules.{rulesAt, afterRules}
 use Rattle.parse.specs.declared.monitors.MonitorText.{MonitorText}
@@ -88,31 +87,38 @@ read-short s z = go (leb (length s) maxText) refl
     go false e = let z′ = rw e at z in absurd (omega arith)
 
 -- and every node of it is one of the bench's
-read-bench : (s : List ℕ) → monitorText s .refusal .number ≡ 0 → OnBench (pointsAt (length s) s (monitorText s .points))
-unfolding monitorText monitorEnd monitorBy refusedMonitor readMonitor
-read-bench s z = go (leb (length s) maxText) z
-  where
-    ends : (c : ℤ) (d : ℕ) (rs : List Rule) (at : ℕ) → (a b : Bool) → ltb (benchPoints (pointsAt (length s) s at)) (length (pointsAt (length s) s at)) ≡ b
-        → (let t = cond a (cond b (refusedMonitor (badNode (2 + length rs + benchPoints (pointsAt (length s) s at)))) (readMonitor c d rs at (pointsAt (length s) s at)))
-        (refusedMonitor (badLine (2 + length rs + length (pointsAt (length s) s at)))) in t .refusal .number ≡ 0 → OnBench (pointsAt (length s) s (t .points)))
-    ends c d rs at true true e z = absurd (omega arith)
-    ends c d rs at true false e z = all-bench (pointsAt (length s) s at) (ltb-false _ _ e)
-    ends c d rs at false b e z = absurd (omega arith)
+abbrev Benched : List ℕ → MonitorText → Type 0
+Benched s t = t .refusal .number ≡ 0 → OnBench (pointsAt (length s) s (t .points))
 
-    first : (l : Line) → (let t = onChart l (λ c d at. monitorEnd s c d (rulesAt (length s) s at) (afterRules (length s) s at)) (refusedMonitor (badLine 1)) in
-        t .refusal .number ≡ 0 → OnBench (pointsAt (length s) s (t .points)))
-    first (Chart c d at) z = ends c d (rulesAt (length s) s at) (afterRules (length s) s at) (leb (length s) (afterPoints (length s) s (afterRules (length s) s at))) _ refl z
-    first (Weights w next) z = absurd (omega arith)
-    first (RuleLine k m zones next) z = absurd (omega arith)
-    first (Horizon h next) z = absurd (omega arith)
-    first (Point node x next) z = absurd (omega arith)
-    first (Shift x next) z = absurd (omega arith)
-    first Other z = absurd (omega arith)
+module _ (s : List ℕ) where
+  behind-rules : (c : ℤ) (d : ℕ) (rs : List Rule) (at : ℕ) → Benched s (monitorEnd s c d rs at)
+  unfolding monitorEnd monitorBy refusedMonitor readMonitor
+  behind-rules c d rs at = go (leb (length s) (afterPoints (length s) s at)) (ltb (benchPoints ps) (length ps)) refl
+    where
+      ps : List NodeReading
+      ps = pointsAt (length s) s at
 
-    go : (b : Bool) → (let t = cond b (onChart (lineAt s 0) (λ c d at. monitorEnd s c d (rulesAt (length s) s at) (afterRules (length s) s at)) (refusedMonitor (badLine 1))) (refusedMonitor tooLong) in
-        t .refusal .number ≡ 0 → OnBench (pointsAt (length s) s (t .points)))
-    go true z = first (lineAt s 0) z
-    go false z = absurd (omega arith)
+      go : (a b : Bool) → ltb (benchPoints ps) (length ps) ≡ b
+          → Benched s (cond a (cond b (refusedMonitor (badNode (2 + length rs + benchPoints ps))) (readMonitor c d rs at ps)) (refusedMonitor (badLine (2 + length rs + length ps))))
+      go true true e z = absurd (omega arith)
+      go true false e z = all-bench ps (ltb-false _ _ e)
+      go false b e z = absurd (omega arith)
+
+  first-line : Benched s (onChart (lineAt s 0) (λ c d at. monitorEnd s c d (rulesAt (length s) s at) (afterRules (length s) s at)) (refusedMonitor (badLine 1)))
+  unfolding refusedMonitor
+  first-line =
+      chart-or-none (lineAt s 0)
+      (λ c d at e. rw e (behind-rules c d (rulesAt (length s) s at) (afterRules (length s) s at)))
+      (λ n. rw (chart-passed (lineAt s 0) _ _ n) (λ z. absurd (omega arith)))
+
+  read-bench : Benched s (monitorText s)
+  unfolding monitorText refusedMonitor
+  read-bench = go (leb (length s) maxText)
+    where
+      go : (b : Bool) → Benched s (cond b (onChart (lineAt s 0) (λ c d at. monitorEnd s c d (rulesAt (length s) s at) (afterRules (length s) s at))
+          (refusedMonitor (badLine 1))) (refusedMonitor tooLong))
+      go true z = first-line z
+      go false z = absurd (omega arith)
 
 module _ (s out : List ℕ) (t : MonitorText) (is : t ≡ monitorText s) where
   pub monitor-refused : (t .refusal .number ≡ 0 → ⊥) → report (Refused (t .refusal)) out ≡ reportOf (monitorPrinted s) out
@@ -145,6 +151,7 @@ module _ (s out : List ℕ) (t : MonitorText) (is : t ≡ monitorText s) where
         unfolding monitorPrinted
         points-written {centre} c out′ r w =
             let ps : List NodeReading = pointsAt (length s) s (t .points) in
-            let bytes = bytes-same {n = maxNumber} (λ xs l. taken-one-by-one (t .list) ok (t .centre) (t .sigma) xs l) ps (omega (arith, points-few, text-short)) in
+            let taken = taken-one-by-one (t .list) ok (t .centre) (t .sigma) in
+            let bytes = bytes-same {n = maxNumber} taken ps (omega (arith, points-few, text-short)) in
             as-written {p = monitorPrinted s} out out′ r
             (rw (← is, eq-eqb (t .refusal .number) 0 read, ok, fits, bytes)) (rw c at w)

@@ -31,7 +31,8 @@ after-more rs m (y ∷ zs) z = after-more rs (takenOf rs m y .next) zs z
 abbrev pub answerAfter : List Rule → Monitor → List ℕ → ℕ → Answer
 answerAfter rs m zs z = maskAnswer (takenOf rs (takenAfter rs m zs) z .mask) (takenAfter rs m zs .count + 1)
 
-pub answers-more : (rs : List Rule) (m : Monitor) (zs : List ℕ) (z : ℕ) → takenAnswers rs m (zs ++ (z ∷ [])) ≡ takenAnswers rs m zs ++ (answerAfter rs m zs z ∷ [])
+pub answers-more : (rs : List Rule) (m : Monitor) (zs : List ℕ) (z : ℕ)
+    → takenAnswers rs m (zs ++ (z ∷ [])) ≡ takenAnswers rs m zs ++ (answerAfter rs m zs z ∷ [])
 unfolding takenAfter takenAnswers
 answers-more rs m [] z = refl
 answers-more rs m (y ∷ zs) z =
@@ -68,9 +69,10 @@ unfolding nodeAfter nodeTaken
 node-more rs zs z =
     let m = takenAfter rs freshMonitor zs in
     let points : length (zs ++ (z ∷ [])) ≡ length zs + 1 = length-append zs (z ∷ []) in
-    let signals : signalsIn (takenAnswers rs freshMonitor (zs ++ (z ∷ []))) ≡ signalsIn (takenAnswers rs freshMonitor zs) + cond (eqb (takenOf rs m z .mask) 0) 0 1 =
-    ap signalsIn (answers-more rs freshMonitor zs z) ∙ signals-more (takenAnswers rs freshMonitor zs) (answerAfter rs freshMonitor zs z)
-    ∙ ap (λ n. signalsIn (takenAnswers rs freshMonitor zs) + n) (mask-signal (takenOf rs m z .mask) (m .count + 1)) in
+    let before = takenAnswers rs freshMonitor zs in
+    let signals : signalsIn (takenAnswers rs freshMonitor (zs ++ (z ∷ []))) ≡ signalsIn before + cond (eqb (takenOf rs m z .mask) 0) 0 1 =
+    ap signalsIn (answers-more rs freshMonitor zs z) ∙ signals-more before (answerAfter rs freshMonitor zs z)
+    ∙ ap (λ n. signalsIn before + n) (mask-signal (takenOf rs m z .mask) (m .count + 1)) in
     rw (after-more rs freshMonitor zs z, points, signals)
 
 -- ---- a node's monitor can be given, and its counts are at most the number of its points
@@ -112,7 +114,8 @@ module _ (rs : List Rule) (zs : List ℕ) where
   pub node-small : (nodeAfter rs zs .monitor .count ≤ length zs) × (nodeAfter rs zs .points ≤ length zs) × (nodeAfter rs zs .signals ≤ length zs)
   unfolding nodeAfter
   node-small =
-      (omega (arith, after-count rs freshMonitor zs), omega arith, omega (arith, signals-le (takenAnswers rs freshMonitor zs), answers-length rs freshMonitor zs))
+      let answers = takenAnswers rs freshMonitor zs in
+      (omega (arith, after-count rs freshMonitor zs), omega arith, omega (arith, signals-le answers, answers-length rs freshMonitor zs))
 
   -- its total is that of its answers
   pub node-total : (k : ℕ) → totalOf k (nodeAfter rs zs) ≡ nodeTotal k (takenAnswers rs freshMonitor zs)

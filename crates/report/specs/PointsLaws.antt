@@ -1,5 +1,5 @@
 -- Laws of the points' lines: one point more, and the turns of the loop over the point lines.
-use Prim.Native.Nat.{ℕ, zero, suc, _+_, _*_, _≤_, _<_}
+use Prim.Native.Nat.{ℕ, zero, suc, _+_, _≤_, _<_}
 use mathlib.Core.Path.{_≡_, refl, sym, ap, _∙_}
 use mathlib.Core.Bool.{Bool, true, false, cond}
 use mathlib.Core.List.{List, [], _∷_, _++_, append-assoc, append-nil}
@@ -59,7 +59,9 @@ bench-more chart before (q ∷ ps) p =
 pub lines-append : (xs ys : List NodeAnswer) → answerLines (xs ++ ys) ≡ answerLines xs ++ answerLines ys
 unfolding answerLines
 lines-append [] ys = refl
-lines-append (x ∷ xs) ys = ap (λ (t : List ℕ). lineOf (x .node) (x .answer) ++ t) (lines-append xs ys) ∙ sym (append-assoc (lineOf (x .node) (x .answer)) (answerLines xs) (answerLines ys))
+lines-append (x ∷ xs) ys =
+    let one = lineOf (x .node) (x .answer) in
+    ap (λ (t : List ℕ). one ++ t) (lines-append xs ys) ∙ sym (append-assoc one (answerLines xs) (answerLines ys))
 
 -- the line of a mask and a count is that of the answer which they say
 mask-line : (node mask count : ℕ) → pointLine (record { node = node; count = count; mask = mask }) ≡ lineOf node (maskAnswer mask count)
@@ -72,7 +74,8 @@ mask-line node mask count = go (eqb mask 0)
 
 module _ (rs : List Rule) (centre : ℤ) (sigma : ℕ) (done : List NodeReading) (node : ℕ) (x : ℤ) where
   -- the zones of a point's node, with it
-  zones-own : zonesOf centre sigma (readingsOf node (done ++ (nodeReading node x ∷ []))) ≡ zonesOf centre sigma (readingsOf node done) ++ (zoneAt (x -ℤ centre) sigma ∷ [])
+  zones-own : zonesOf centre sigma (readingsOf node (done ++ (nodeReading node x ∷ [])))
+      ≡ zonesOf centre sigma (readingsOf node done) ++ (zoneAt (x -ℤ centre) sigma ∷ [])
   unfolding zonesOf
   zones-own = rw (readings-append node done (nodeReading node x ∷ []), reading-own node x) (zones-append centre sigma (readingsOf node done) (x ∷ []))
 
@@ -85,11 +88,13 @@ module _ (rs : List Rule) (centre : ℤ) (sigma : ℕ) (done : List NodeReading)
       let zs = zonesOf centre sigma (readingsOf node done) in
       let z = zoneAt (x -ℤ centre) sigma in
       let a = answerAfter rs freshMonitor zs z in
-      let last : lastAnswer node (takenChart rs centre sigma (readingsOf node (done ++ (nodeReading node x ∷ [])))) ≡ nodeAnswer node a ∷ [] =
+      let chart = takenChart rs centre sigma in
+      let before = benchAnswers chart [] done in
+      let last : lastAnswer node (chart (readingsOf node (done ++ (nodeReading node x ∷ [])))) ≡ nodeAnswer node a ∷ [] =
       rw (zones-own, answers-more rs freshMonitor zs z) (last-more node (takenAnswers rs freshMonitor zs) a) in
-      ap answerLines (bench-more (takenChart rs centre sigma) [] done (nodeReading node x) ∙ ap (λ (l : List NodeAnswer). benchAnswers (takenChart rs centre sigma) [] done ++ l) last)
-      ∙ lines-append (benchAnswers (takenChart rs centre sigma) [] done) (nodeAnswer node a ∷ [])
-      ∙ ap (λ (l : List ℕ). answerLines (benchAnswers (takenChart rs centre sigma) [] done) ++ l) (append-nil (lineOf node a))
+      ap answerLines (bench-more chart [] done (nodeReading node x) ∙ ap (λ (l : List NodeAnswer). before ++ l) last)
+      ∙ lines-append before (nodeAnswer node a ∷ [])
+      ∙ ap (λ (l : List ℕ). answerLines before ++ l) (append-nil (lineOf node a))
 
   -- the nodes behind the point: its own is moved on, the others stay
   nodes-more : (nodes : List Node) → NodesAre rs centre sigma done nodes → node < length nodes
@@ -124,7 +129,8 @@ slots-fresh (suc m) n e (suc k) l = slots-fresh m n e k (omega arith)
 -- ---- the turns of the loop
 
 module _ {s : List ℕ} {at : ℕ} {rs : List Rule} {centre : ℤ} {sigma : ℕ} {before : List ℕ} where
-  pub written-start : OnBench (pointsAt (length s) s at) → (nodes : List Node) → ((k : ℕ) → k < nodeCount → getD nodes k freshNode ≡ freshNode) → length nodes ≡ nodeCount
+  pub written-start : OnBench (pointsAt (length s) s at) → (nodes : List Node) → ((k : ℕ) → k < nodeCount → getD nodes k freshNode ≡ freshNode)
+      → length nodes ≡ nodeCount
       → BenchWritten s at rs centre sigma before before nodes at 0
   unfolding answerLines benchAnswers zonesOf readingsOf nodeAfter takenAfter takenAnswers signalsIn
   written-start bench nodes fresh slots =
@@ -173,7 +179,8 @@ module _ {s : List ℕ} {at : ℕ} {rs : List Rule} {centre : ℤ} {sigma : ℕ}
 
     pub written-more : (node : ℕ) (x : ℤ) (next : ℕ) → lineAt s i ≡ Point node x next
         → (z : ℕ) → z ≡ zoneAt (x -ℤ centre) sigma → (p : NodePoint) → p ≡ nodeTaken rs (getD nodes node freshNode) z
-        → {after′ : List ℕ} (r : ℕ) → Wrote after end after′ r (pointLine (record { node = node; count = p .count; mask = p .mask })) → r ≤ end + pointRoom
+        → {after′ : List ℕ} (r : ℕ) → Wrote after end after′ r (pointLine (record { node = node; count = p .count; mask = p .mask }))
+        → r ≤ end + pointRoom
         → BenchWritten s at rs centre sigma before after′ (set nodes node (p .next)) next r
     unfolding OnBench nodeTaken nodeAfter
     written-more node x next e z ez p ep {after′} r w l =
@@ -185,8 +192,8 @@ module _ {s : List ℕ} {at : ℕ} {rs : List Rule} {centre : ℤ} {sigma : ℕ}
         let count : length (u .done ++ (one ∷ [])) ≡ length (u .done) + 1 = length-append (u .done) (one ∷ []) in
         let own : p ≡ nodeTaken rs (nodeAfter rs zs) (zoneAt (x -ℤ centre) sigma) = ep ∙ taken-same rs (u .nodes-are node below) ez in
         let slot : node < length nodes = omega (arith, u .slots) in
-        let line : pointLine (record { node = node; count = p .count; mask = p .mask }) ≡ lineOf node (answerAfter rs freshMonitor zs (zoneAt (x -ℤ centre) sigma)) =
-        rw own (mask-line node _ _) in
+        let line : pointLine (record { node = node; count = p .count; mask = p .mask })
+        ≡ lineOf node (answerAfter rs freshMonitor zs (zoneAt (x -ℤ centre) sigma)) = rw own (mask-line node _ _) in
         record {
           fuel = o .0;
           enough = o .1;
@@ -203,14 +210,15 @@ module _ {s : List ℕ} {at : ℕ} {rs : List Rule} {centre : ℤ} {sigma : ℕ}
         }
 
     -- all the points are charted
-    pub all-done : NotOf point (lineAt s i) → u .done ≡ pointsAt (length s) s at
+    all-done : NotOf point (lineAt s i) → u .done ≡ pointsAt (length s) s at
     all-done none = let q = no-points (u .fuel) s i none in sym (append-nil (u .done)) ∙ (rw (q .0) at (u .whole))
 
     totals-are : (n : ℕ) → n ≤ nodeCount → totalsOf nodes n ≡ benchTotals (takenChart rs centre sigma) (u .done) n
     unfolding totalsOf benchTotals
     totals-are zero h = refl
     totals-are (suc n) h =
-        let one : totalOf n (getD nodes n freshNode) ≡ _ = ap (totalOf n) (u .nodes-are n (omega arith)) ∙ node-total rs (zonesOf centre sigma (readingsOf n (u .done))) n in
+        let zs = zonesOf centre sigma (readingsOf n (u .done)) in
+        let one : totalOf n (getD nodes n freshNode) ≡ _ = ap (totalOf n) (u .nodes-are n (omega arith)) ∙ node-total rs zs n in
         rw (totals-are n (omega arith), one)
 
     -- and the totals are written behind them

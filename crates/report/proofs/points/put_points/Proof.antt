@@ -64,7 +64,8 @@ array-copy-out-chart-point c =
     let k = c .before .before .before in
     let below = node-below (k .before .before .before .loop .inv) _ _ _ (sym (k .before .before .line-at .ensures) ∙ k .node .given .1) in
     let chart = k .before .before .before .before .before .before .before .args .chart in
-    omega (arith, below, zone-below (toZ w32 (ofZ w32 (k .node .given .0 .1 .0))) (toZ w32 (ofZ w32 (chart .centre))) (chart .sigma) (c .zone-at .ensures))
+    let small = zone-below (toZ w32 (ofZ w32 (k .node .given .0 .1 .0))) (toZ w32 (ofZ w32 (chart .centre))) (chart .sigma) (c .zone-at .ensures) in
+    omega (arith, below, small)
 
 chart-point-requires : tie.Need-chart-point-requires Inv-loop μ-loop
 chart-point-requires c κs =
@@ -96,7 +97,9 @@ array-set-from-nodes c =
     let k = c .before .before .before .before .before .before .before .before .before .before in
     let below = node-below (k .before .before .before .loop .inv) _ _ _ (sym (k .before .before .line-at .ensures) ∙ k .node .given .1) in
     let chart = k .before .before .before .before .before .before .before .args .chart in
-    omega (arith, below, zone-below (toZ w32 (ofZ w32 (k .node .given .0 .1 .0))) (toZ w32 (ofZ w32 (chart .centre))) (chart .sigma) (c .before .before .before .before .before .before .before .zone-at .ensures))
+    let z = c .before .before .before .before .before .before .before in
+    let small = zone-below (toZ w32 (ofZ w32 (k .node .given .0 .1 .0))) (toZ w32 (ofZ w32 (chart .centre))) (chart .sigma) (z .zone-at .ensures) in
+    omega (arith, below, small)
 
 loop-less : tie.Need-loop-less Inv-loop μ-loop
 loop-less c =
@@ -115,7 +118,8 @@ loop-again c =
     let x = toZ-ofZ (reading-fits _ _ _ _ _ found) in
     let centre : toZ w32 (ofZ w32 (chart .centre)) ≡ chart .centre = search needs in
     let zone = z .zone-at .ensures ∙ zone-given x centre (chart .sigma) in
-    written-more (k .before .before .before .loop .inv) _ _ _ found _ zone _ (p .chart-point .ensures) _ (w .put-point .ensures .0) (w .put-point .ensures .1)
+    let u = k .before .before .before .loop .inv in
+    written-more u _ _ _ found _ zone _ (p .chart-point .ensures) _ (w .put-point .ensures .0) (w .put-point .ensures .1)
 
 pub put-points-spec : {M : Type 1} → statement M
 put-points-spec =

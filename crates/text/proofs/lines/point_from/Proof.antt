@@ -34,7 +34,8 @@ returns-2 : tie.Need-returns-2
 unfolding pointFrom
 returns-2 c =
     let node = c .before .before .before .before in
-    sym (number _ _ (sym (node .before .before .field .ensures) ∙ node .node .given .1) ∙ no-signed _ _ (sym (c .before .before .signed-end .ensures) ∙ c .enum-told2 .given .1))
+    let first = number _ _ (sym (node .before .before .field .ensures) ∙ node .node .given .1) in
+    sym (first ∙ no-signed _ _ (sym (c .before .before .signed-end .ensures) ∙ c .enum-told2 .given .1))
 
 returns-3 : tie.Need-returns-3
 unfolding pointFrom
@@ -42,7 +43,8 @@ returns-3 c =
     let x = c .before in
     let node = x .before .before .before .before in
     let fits : toZ w32 (ofZ w32 (x .reading .given .0 .0)) ≡ x .reading .given .0 .0 = search needs in
-    rw fits (sym (number _ _ (sym (node .before .before .field .ensures) ∙ node .node .given .1) ∙ signed _ _ (sym (x .before .before .signed-end .ensures) ∙ x .reading .given .1)))
+    let first = number _ _ (sym (node .before .before .field .ensures) ∙ node .node .given .1) in
+    rw fits (sym (first ∙ signed _ _ (sym (x .before .before .signed-end .ensures) ∙ x .reading .given .1)))
 
 pub point-from-spec : {M : Type 1} → statement M
 point-from-spec =
