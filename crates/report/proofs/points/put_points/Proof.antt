@@ -9,6 +9,7 @@ use borrow.Author.Needs.{needs}
 use mir.Facts.{toZ-ofZ}
 use Rattle.rules.specs.Check.{activeRules}
 use Rattle.text.specs.LineLaws.{point-ahead}
+use Rattle.parse.specs.Readings.{nodeCount}
 use Rattle.report.specs.BenchWritten.{BenchWritten}
 use Rattle.report.specs.ZonesLaws.{zone-given, zone-below}
 use Rattle.report.specs.PointsLaws.{reading-fits, slots-fresh, written-start, done-few, points-left, node-below, node-ready, written-more, written-done}
@@ -27,7 +28,7 @@ fresh-node-requires : tie.Need-fresh-node-requires Inv-loop μ-loop
 fresh-node-requires c κs = search needs
 
 loop-holds : tie.Need-loop-holds Inv-loop μ-loop
-loop-holds c = written-start (c .before .before .before .pre .1 .1 .1 .0) _ (slots-fresh 16 (c .fresh-node .result) (c .fresh-node .ensures)) refl
+loop-holds c = written-start (c .before .before .before .pre .1 .1 .1 .0) _ (slots-fresh nodeCount (c .fresh-node .result) (c .fresh-node .ensures)) refl
 
 line-at-requires : tie.Need-line-at-requires Inv-loop μ-loop
 line-at-requires c κs = search needs
