@@ -14,7 +14,8 @@ use Rattle.text.specs.LineLaws.{point-ahead}
 use Rattle.text.specs.Size.{minPoint}
 use Rattle.text.specs.Kind.{point, NotOf}
 use Rattle.parse.specs.declared.point_lines.PointsRead.{PointsRead}
-use Rattle.parse.specs.Readings.{pointsAt, afterPoints, pointsRead, benchPoints, benchMore, nodeCount}
+use Rattle.parse.specs.Readings.{pointsAt, afterPoints, pointsRead, benchPoints, nodeCount}
+use Rattle.parse.specs.Parts.{benchMore}
 use Rattle.parse.specs.ReadingsLaws.{one-point, no-points}
 
 -- how many points come before the first bad node: those so far, where all of them do, and those behind them

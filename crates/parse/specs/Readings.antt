@@ -1,5 +1,5 @@
 -- TO BELIEVE: the points of the point lines that stand in a row from an offset on, and the nodes of a bench. Definitions.
-use Prim.Native.Nat.{ℕ, zero, suc, _+_, _<_}
+use Prim.Native.Nat.{ℕ, zero, suc, _<_}
 use mathlib.Core.Bool.{cond}
 use mathlib.Core.List.{List, [], _∷_}
 use lib.Dec.{ltb, eqb}
@@ -40,10 +40,6 @@ OnBench (p ∷ ps) = (p .node < nodeCount) × OnBench ps
 unfoldable pub benchPoints : List NodeReading → ℕ
 benchPoints [] = 0
 benchPoints (p ∷ ps) = cond (ltb (p .node) nodeCount) (suc (benchPoints ps)) 0
-
--- the same of `count` points of which `good` come before it, and one of this node more
-abbrev pub benchMore : ℕ → ℕ → ℕ → ℕ
-benchMore count good node = cond (ltb good count) good (cond (ltb node nodeCount) (count + 1) count)
 
 -- the readings of one node, in their order
 unfoldable pub readingsOf : ℕ → List NodeReading → List ℤ

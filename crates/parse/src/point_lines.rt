@@ -6,7 +6,8 @@ ghost use mathlib.Core.Path.{_≡_};
 ghost use Prim.Native.Nat.{_≤_};
 ghost use lib.ListN.{length};
 ghost use Rattle.text.specs.Size.{maxText};
-ghost use Rattle.parse.specs.Readings.{pointsRead, benchMore};
+ghost use Rattle.parse.specs.Parts.{benchMore};
+ghost use Rattle.parse.specs.Readings.{pointsRead};
 
 // The number of nodes of a bench: 0 to 15.
 pub const NODES: u32 = 16;

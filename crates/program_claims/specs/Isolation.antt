@@ -41,7 +41,7 @@ free-more rs (y ∷ zs) row z =
     let r = free-more rs zs (charted .row) z in
     (r .0, ap (λ (l : List Answer). charted .answer ∷ l) (r .1))
 
-one-by-one : (rs : List Rule) (centre : ℤ) (sigma : ℕ) → OneByOne (plainChart rs centre sigma)
+pub one-by-one : (rs : List Rule) (centre : ℤ) (sigma : ℕ) → OneByOne (plainChart rs centre sigma)
 unfolding freeAnswers zonesOf
 one-by-one rs centre sigma = (
   refl,
@@ -163,7 +163,7 @@ abbrev pub Accepted : List ℕ → Type 0
 Accepted s = (number place : ℕ) → printedBytes (monitorPrinted s) ≡ refusedLine number place → ⊥
 
 -- an accepted text of this chart, these rules and these points
-accepted-prints : {s : List ℕ} {centre : ℤ} {sigma : ℕ} {rs : List Rule} {ps : List NodeReading} → Accepted s → MonitorTextIs s centre sigma rs ps
+pub accepted-prints : {s : List ℕ} {centre : ℤ} {sigma : ℕ} {rs : List Rule} {ps : List NodeReading} → Accepted s → MonitorTextIs s centre sigma rs ps
     → OnBench ps × MonitorPrints centre sigma rs ps (printedBytes (monitorPrinted s))
 accepted-prints {s} {centre} {sigma} {rs} {ps} a is = go (monitor-program s)
   where

@@ -15,6 +15,7 @@ pub mod NodeLines
 pub mod NodeLinesLaws
 pub mod NodeBytes
 pub mod Isolation
+pub mod OneNode
 pub mod WeightsTexts
 pub mod WeightsBytes
 pub mod WeightsProgram

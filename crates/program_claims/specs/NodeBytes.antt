@@ -24,7 +24,7 @@ use Rattle.program_claims.specs.NodeLinesLaws.{word-line, NoComma, own-l
 
 -- ---- the lines of a node's answers and total, without their LFs
 
-abbrev body : ℕ → Answer → List ℕ
+abbrev pub body : ℕ → Answer → List ℕ
 body k (refused n) = []
 body k (quiet n) = quietWord ++ fields (k ∷ n ∷ [])
 body k (signal n mask) = signalWord ++ fields (k ∷ n ∷ mask ∷ [])
@@ -74,7 +74,7 @@ total-of : (k node n m : ℕ) (rest : List ℕ)
 unfolding newlines
 total-of k node n m rest = ap (linesOf k) (total-shape node n m rest) ∙ line-of k totalWord (plain .2) refl node n (m ∷ []) rest
 
-answers-of : (k : ℕ) (os : List NodeAnswer) (rest : List ℕ) → EachSaid os
+pub answers-of : (k : ℕ) (os : List NodeAnswer) (rest : List ℕ) → EachSaid os
     → linesOf k (answerLines os ++ rest) ≡ bodies k (answersOf k os) ++ linesOf k rest
 unfolding answerLines EachSaid answersOf bodies
 answers-of k [] rest i = refl
@@ -89,7 +89,7 @@ answers-of k (a ∷ os) rest i =
     go (yes q) r = rw (eq-eqb (a .node) k q, q, r)
     go (no d) r = rw (ne-eqb (a .node) k d, r)
 
-totals-of : (k : ℕ) (ts : List NodeTotal) → linesOf k (totalLines ts) ≡ totalsOf k ts
+pub totals-of : (k : ℕ) (ts : List NodeTotal) → linesOf k (totalLines ts) ≡ totalsOf k ts
 unfolding totalLines totalsOf linesOf linesIn ofNode
 totals-of k [] = refl
 totals-of k (t ∷ ts) = total-of k (t .node) (t .points) (t .signals) (totalLines ts) ∙ rw (totals-of k ts)

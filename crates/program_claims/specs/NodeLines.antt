@@ -23,6 +23,11 @@ unfoldable pub linesIn : List ℕ → List (List ℕ)
 linesIn [] = []
 linesIn (b ∷ bytes) = cond (eqb b 10) ([] ∷ linesIn bytes) (onto b (linesIn bytes))
 
+-- lines, each with its LF
+unfoldable pub withEnds : List (List ℕ) → List ℕ
+withEnds [] = []
+withEnds (l ∷ ls) = l ++ (10 ∷ withEnds ls)
+
 -- what stands before the first comma, which is 44, and what stands behind it
 unfoldable pub beforeComma : List ℕ → List ℕ
 beforeComma [] = []
