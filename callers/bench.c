@@ -33,7 +33,10 @@ static const int32_t readings[PERIODS][CORES] = {
     {50014, 50543, 50073, 49888},
 };
 
-/* What the bench keeps of a core: the monitor, as its state and its count of points since the last signal; and all its points and signals. */
+/*
+ * What the bench keeps of a core: the monitor, as its state and its count of points since the last signal; and all its points and signals. The
+ * count starts again after a signal, the number of all points does not: it is the period of a point.
+ */
 static struct {
     uint64_t state;
     uint32_t count, points, signals;
@@ -69,10 +72,11 @@ static void chart(uint32_t node, int32_t reading) {
     must(catrovindy_step(rules, rule_count, &nodes[node].state, &nodes[node].count, zone, answer));
     nodes[node].points++;
     if (answer[CATROVINDY_STEP_MASK] == 0) {
-        add(&lines, "quiet,%" PRIu32 ",%" PRIu32 "\n", node, answer[CATROVINDY_STEP_COUNT]);
+        add(&lines, "quiet,%" PRIu32 ",%" PRIu32 ",%" PRIu32 "\n", node, answer[CATROVINDY_STEP_COUNT], nodes[node].points);
     } else {
         nodes[node].signals++;
-        add(&lines, "signal,%" PRIu32 ",%" PRIu32 ",%" PRIu32 "\n", node, answer[CATROVINDY_STEP_COUNT], answer[CATROVINDY_STEP_MASK]);
+        add(&lines, "signal,%" PRIu32 ",%" PRIu32 ",%" PRIu32 ",%" PRIu32 "\n", node, answer[CATROVINDY_STEP_COUNT],
+            answer[CATROVINDY_STEP_MASK], nodes[node].points);
     }
 }
 

@@ -27,7 +27,8 @@ fn points() -> impl Iterator<Item = (usize, i32)> {
     READINGS.into_iter().flat_map(|period| CORES.into_iter().zip(period))
 }
 
-/// What the bench keeps of a core: its monitor, and all its points and signals.
+/// What the bench keeps of a core: its monitor, and all its points and signals. The monitor's count starts again after a signal, the number of
+/// all points does not: it is the period of a point.
 #[derive(Clone, Copy, Default)]
 struct Node {
     monitor: Monitor,
@@ -39,11 +40,12 @@ struct Node {
 fn chart(nodes: &mut [Node; NODES], node: usize, reading: i32) -> Result<String, Refusal> {
     let point = nodes[node].monitor.step(&RULES, zone(reading, CENTRE, SIGMA)?)?;
     nodes[node].points += 1;
+    let period = nodes[node].points;
     if point.is_signal() {
         nodes[node].signals += 1;
-        return Ok(format!("signal,{node},{},{}\n", point.count, point.mask));
+        return Ok(format!("signal,{node},{},{},{period}\n", point.count, point.mask));
     }
-    Ok(format!("quiet,{node},{}\n", point.count))
+    Ok(format!("quiet,{node},{},{period}\n", point.count))
 }
 
 /// (b) At the end a total for each node that has points.

@@ -215,9 +215,10 @@ static int written_from(size_t place) {
     return place < sizeof monitor_lines;
 }
 
-/* The monitor report: each node by itself, no lines for no points, and a node beyond the last refused at its line. */
+/* The monitor report: each node by itself, a period that goes on after a signal, no lines for no points, and a node beyond the last refused. */
 static void monitor_reports(void) {
-    static const char lines[] = "signal,15,1,1\nquiet,0,1\ntotal,0,1,0\ntotal,15,1,1\n";
+    static const char two_nodes[] = "chart,0,1\nrule,1,1,1\npoint,15,9\npoint,0,0\npoint,15,0\n";
+    static const char lines[] = "signal,15,1,1,1\nquiet,0,1,1\nquiet,15,1,2\ntotal,0,1,0\ntotal,15,2,1\n";
     const size_t length = strlen(lines);
     uint64_t bytes = 77;
     memset(monitor_lines, 0x5A, sizeof monitor_lines);
@@ -227,7 +228,7 @@ static void monitor_reports(void) {
     require(bytes == 77 && !written_from(0), "a refused monitor report leaves the buffer");
     require(monitor_report_of("chart,0,1\nrule,1,1,1\n", &bytes) == CATROVINDY_ACCEPTED, "a text without points is accepted");
     require(bytes == 0 && !written_from(0), "and has no lines");
-    require(monitor_report_of("chart,0,1\nrule,1,1,1\npoint,15,9\npoint,0,0\n", &bytes) == CATROVINDY_ACCEPTED, "two nodes are accepted");
+    require(monitor_report_of(two_nodes, &bytes) == CATROVINDY_ACCEPTED, "two nodes are accepted");
     require(bytes == length && memcmp(monitor_lines, lines, length) == 0, "the lines of two nodes");
     require(!written_from(length), "the bytes after the lines are kept");
 }

@@ -53,8 +53,8 @@ extern "C" {
 /* ---- The version */
 
 /* The version of this header, as text and as major * 10000 + minor * 100 + patch. The Rust crate has the same. */
-#define CATROVINDY_VERSION "0.6.0"
-#define CATROVINDY_VERSION_NUMBER 600
+#define CATROVINDY_VERSION "0.7.0"
+#define CATROVINDY_VERSION_NUMBER 700
 
 /* The version of the library, as a number: CATROVINDY_VERSION_NUMBER where the library belongs to this header. It is no code. */
 uint32_t catrovindy_version(void);
@@ -78,7 +78,7 @@ uint32_t catrovindy_version(void);
 #define CATROVINDY_MAX_ROWS 4096       /* the largest horizon of a table report */
 #define CATROVINDY_NODES 16            /* the nodes of a monitor report, numbered from 0 */
 #define CATROVINDY_TABLE_SIZE 344544   /* the buffer of a table report */
-#define CATROVINDY_MONITOR_SIZE 262744 /* the buffer of a monitor report */
+#define CATROVINDY_MONITOR_SIZE 334827 /* the buffer of a monitor report */
 #define CATROVINDY_WEIGHTS_SIZE 96     /* the buffer of a weights report */
 
 /* The places of each array that is written. */
@@ -392,9 +392,10 @@ CATROVINDY_CODE uint64_t catrovindy_table_report(const uint8_t *text, size_t len
  * The monitor program's lines for a text of a chart line, rule lines and point lines `point,node,reading`. Each node, 0 to 15, has a monitor
  * of its own; the chart and the rules are common. A point is written, in the text's order, as one of the first two lines, and behind the last
  * point each node that has points, in order of node, as the third:
- *   quiet,node,count: no rule holds; the count is that of the node's points since its last signal.
- *   signal,node,count,mask: the mask is the sum of 2^index over the rules that hold.
+ *   quiet,node,count,period: no rule holds; the count is that of the node's points since its last signal.
+ *   signal,node,count,mask,period: the mask is the sum of 2^index over the rules that hold.
  *   total,node,points,signals: the number of the node's points, and how many of them signalled.
+ * The period is the number of the node's points since the start of the text, from 1; unlike the count, it goes on after a signal.
  * So a text without points has no lines. With the same chart and rules the lines of a node depend on its own points alone.
  *   text: `length` bytes.
  *   out: CATROVINDY_MONITOR_SIZE bytes, written only. Then begins with the lines; the bytes after them are kept.

@@ -20,14 +20,14 @@ start_work() {
   trap 'rm -rf "$work"' EXIT
 }
 
-# 1000 as 1,000
+# 1000 as 1,000, and -1000 as -1,000
 commas() {
-  local s=$1 t=
+  local s=${1#-} t=
   while [ "${#s}" -gt 3 ]; do
     t=,${s: -3}$t
     s=${s%???}
   done
-  echo "$s$t"
+  echo "${1%%[0-9]*}$s$t"
 }
 
 quoted() { printf "'%s'" "${1//\'/\'\'}"; }

@@ -1,6 +1,6 @@
 #!/usr/bin/env bash
-# Makes the three pictures of the README: two from the stored outputs in examples/, and one from the rules there with the built programs. Needs
-# gnuplot (Debian: package gnuplot-nox).
+# Makes the four pictures of the README: three from the stored texts and outputs in examples/, and one from the rules there with the built
+# programs. Needs gnuplot (Debian: package gnuplot-nox).
 set -euo pipefail
 cd "$(dirname "${BASH_SOURCE[0]}")/.."
 
@@ -21,4 +21,6 @@ pictures/characteristic.sh pictures/characteristic.svg 5 \
   "Duncan=examples/duncan-in-control.txt" \
   "Western Electric=examples/western-electric-in-control.txt"
 
-ls pictures/distribution.svg pictures/boxes.svg pictures/characteristic.svg
+pictures/series.sh pictures/series.svg examples/monitor-shift.txt examples/monitor-shift.out
+
+ls pictures/distribution.svg pictures/boxes.svg pictures/characteristic.svg pictures/series.svg

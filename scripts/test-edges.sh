@@ -75,6 +75,11 @@ times() {
   for ((i = 0; i < n; i++)); do printf '%s\n' "$@"; done
 }
 
+# The lines of points, each with its period behind it: the number of its node's lines up to it.
+periods() {
+  awk -F, '{ print $0 "," ++points[$2] }'
+}
+
 # bytes FILE LENGTH: fails unless the file has so many bytes.
 bytes() {
   if [ "$(wc -c <"$1")" != "$2" ]; then
@@ -232,8 +237,10 @@ rule,8,8,14'
 bytes "$work/monitor" 65536
 # 284 = 35 times 8 and 4 more; then nodes 0 to 7 have a fifth.
 {
-  times 35 quiet,{0..15},1 quiet,{0..15},2 quiet,{0..15},3 quiet,{0..15},4 quiet,{0..15},5 quiet,{0..15},6 quiet,{0..15},7 signal,{0..15},8,64
-  times 1 quiet,{0..15},1 quiet,{0..15},2 quiet,{0..15},3 quiet,{0..15},4 quiet,{0,1},5 signal,{2..7},5,1
+  {
+    times 35 quiet,{0..15},1 quiet,{0..15},2 quiet,{0..15},3 quiet,{0..15},4 quiet,{0..15},5 quiet,{0..15},6 quiet,{0..15},7 signal,{0..15},8,64
+    times 1 quiet,{0..15},1 quiet,{0..15},2 quiet,{0..15},3 quiet,{0..15},4 quiet,{0,1},5 signal,{2..7},5,1
+  } | periods
   times 1 total,{0,1},285,35 total,{2..7},285,36 total,{8..15},284,35
 } >"$work/monitor.out"
 run target/bin/runs_monitor <"$work/monitor"
@@ -257,27 +264,46 @@ if [ "$(tail -n 1 "$long.runs_monitor")" != total,0,6551,0 ]; then
   echo "FAILED: 6,551 points end in $(tail -n 1 "$long.runs_monitor"), not in total,0,6551,0"
   exit 1
 fi
+run target/bin/runs_monitor <"$work/long.runs_monitor"
+{ seq 6551 | sed 's/^/quiet,0,/' | periods && echo total,0,6551,0; } >"$work/quiet.out"
+check "runs_monitor: 6,551 points, none with a signal" 0 "@$work/quiet.out" ''
 run target/bin/runs_monitor < <(cat "$work/long.runs_monitor" && echo point,0,0)
 check "runs_monitor: 6,552 points" 0 'refused,17,0' ''
 sed 's/point,0,0/point,0,9/' "$work/long.runs_monitor" >"$work/nines"
 run target/bin/runs_monitor <"$work/nines"
-{ times 6551 signal,0,1,1 && echo total,0,6551,6551; } >"$work/nines.out"
+{ times 6551 signal,0,1,1 | periods && echo total,0,6551,6551; } >"$work/nines.out"
 check "runs_monitor: 6,551 points, each with a signal" 0 "@$work/nines.out" ''
 
-# The longest output: a signal by seven rules at each point, points on every node, and on six of them over 999.
+# Points on every node, and on six of them over 999, in turn, each with a signal by seven rules.
 {
   times 1 chart,0,1 && times 7 rule,1,1,1
   times 1000 point,{0..5},9 && times 100 point,{6..9},9 && times 135 point,0,9
   times 1 point,{10..15},9 point,{10..12},9
-} >"$work/longest"
-bytes "$work/longest" 65536
+} >"$work/nodes"
+bytes "$work/nodes" 65536
 {
-  sed -n -E 's/^point,([0-9]+),9$/signal,\1,1,127/p' "$work/longest"
+  sed -n -E 's/^point,([0-9]+),9$/signal,\1,1,127/p' "$work/nodes" | periods
   times 1 total,0,1135,1135 total,{1..5},1000,1000 total,{6..9},100,100 total,{10..12},2,2 total,{13..15},1,1
+} >"$work/nodes.out"
+run target/bin/runs_monitor <"$work/nodes"
+check "runs_monitor: sixteen nodes, six of them with over 999 points" 0 "@$work/nodes.out" ''
+
+# The longest output. Each point signals by seven rules: a quiet line is shorter by two bytes even where its n has four digits, and a mask of
+# three digits takes seven rules. All points are on node 0, so that most periods have four digits, but for one on each other node, which also
+# prints that node's total. The bytes were reckoned for every number of rules and every number of points of each node; no other choice has more.
+# Three bytes of text are left, too few for one more point.
+{
+  times 1 chart,0,1 && times 7 rule,1,1,1
+  times 6529 point,0,9 && times 1 point,{1..15},9
+} >"$work/longest"
+bytes "$work/longest" $((65536 - 3))
+{
+  { times 6529 signal,0,1,127 && times 1 signal,{1..15},1,127; } | periods
+  times 1 total,0,6529,6529 total,{1..15},1,1
 } >"$work/longest.out"
-bytes "$work/longest.out" 98419
+bytes "$work/longest.out" 129938
 run target/bin/runs_monitor <"$work/longest"
-check "runs_monitor: the longest output, 98,419 bytes" 0 "@$work/longest.out" ''
+check "runs_monitor: the longest output, 129,938 bytes" 0 "@$work/longest.out" ''
 
 # For the table: a text of this length can only have too many rules, or a line that is not one.
 {
@@ -380,6 +406,42 @@ printf 'standings,1\nn,chance,by,left\n1,1152921504606846976,1152921504606846976
 printf 'q,%s,at,1\n' 5 25 50 75 95 >>"$part"
 run bash scripts/bounds.sh "$part" 1
 check "bounds: a chance of 1" 0 'at least 1.000000 and at most 1' ''
+
+# pictures/series.sh: what it turns down is told before anything is drawn, so that a gnuplot which does nothing will do, and no picture is there.
+mkdir "$work/drawer"
+printf '#!/bin/sh\nexit 1\n' >"$work/drawer/gnuplot"
+chmod +x "$work/drawer/gnuplot"
+draw() { # WHY ARGUMENT ...: fails with this sentence, behind the script's name
+  local why=$1
+  shift
+  PATH=$work/drawer:$PATH run bash pictures/series.sh "$work/series.svg" "$@"
+  check "series: ${why#*: }" 1 '' "series.sh: $why"
+  if [ -e "$work/series.svg" ]; then
+    echo "FAILED: a picture is there"
+    exit 1
+  fi
+}
+shift_text=examples/monitor-shift.txt shift_out=examples/monitor-shift.out
+bench_text=examples/monitor-bench.txt bench_out=examples/monitor-bench.out
+draw "$work/none: no such file, or it cannot be read" "$shift_text" "$work/none"
+draw "examples/refused/16-line.out: runs_monitor refused the text ($(cat examples/refused/16-line.out)), there is nothing to draw" \
+  "$shift_text" examples/refused/16-line.out
+draw "examples/monitor-no-points.txt: it has no points, there is nothing to draw" examples/monitor-no-points.txt "$shift_out"
+draw "$table: not a monitor text (line 1)" "$table" "$shift_out"
+draw "$table: not an output of runs_monitor (line 1)" "$shift_text" "$table"
+draw "$bench_text: nodes 0, 3, 15 have points, pick one with --node" "$bench_text" "$bench_out"
+draw "$bench_text: node 5 has no point; nodes that have: 0, 3, 15" --node 5 "$bench_text" "$bench_out"
+draw "examples/monitor-centre.out: it has 13 points and the text 28: it does not belong to the text" "$shift_text" examples/monitor-centre.out
+sed '1s/3/15/' "$bench_out" >"$part"
+draw "$part: the periods of node 15 are not 1, 2, 3, .. (line 2)" --node 3 "$bench_text" "$part"
+sed 's/signal,0,8,64,25/signal,0,8,128,25/' "$shift_out" >"$part"
+draw "$part: the mask 128 in line 25 names a rule that the text does not have: it does not belong to the text" "$shift_text" "$part"
+sed 's/,[0-9]*$//' "$shift_out" >"$part"
+draw "$part: no period in line 1: an older runs_monitor printed it" "$shift_text" "$part"
+head -n -1 "$shift_out" >"$part"
+draw "$part: not a whole output of runs_monitor" "$shift_text" "$part"
+sed '$s/28/29/' "$shift_out" >"$part"
+draw "$part: the total of node 0 does not add up (line 29)" "$shift_text" "$part"
 
 # scripts/needs.sh, in a folder of its own, with a PATH in which most commands are missing, and never as root.
 room=$work/room

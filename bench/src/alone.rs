@@ -1,5 +1,5 @@
 //! One node of a bench by itself: a text with the points of this node alone, and the lines that are printed for it.
-use crate::format::lines;
+use crate::format::{lines, number};
 use crate::monitor_program::point_line;
 
 /// The lines that are kept, each with its end.
@@ -25,8 +25,33 @@ pub fn opening(text: &[u8]) -> Vec<u8> {
     kept(&lines(text).0, |line| point_line(line).is_none())
 }
 
+fn fields(line: &[u8]) -> Vec<&[u8]> {
+    line.split(|&b| b == b',').collect()
+}
+
 /// The lines that have the node behind their first word.
 pub fn lines_of(printed: &[u8], node: u32) -> Vec<u8> {
     let node = node.to_string();
-    kept(&lines(printed).0, |line| line.split(|&b| b == b',').nth(1) == Some(node.as_bytes()))
+    kept(&lines(printed).0, |line| fields(line).get(1) == Some(&node.as_bytes()))
+}
+
+/// Whether a line is that of a point with this period: the period is its last field.
+fn has_period(line: &[u8], period: u32) -> bool {
+    match fields(line)[..] {
+        [b"quiet", _, _, last] | [b"signal", _, _, _, last] => number(last) == Some(period),
+        _ => false,
+    }
+}
+
+/// How many lines of points a node has, if their periods are 1, 2, 3 and so on up to the points of its total, its last line; and how many of
+/// the periods are not n, since the node was cleared before.
+pub fn periods(own: &[u8]) -> Option<(u64, u64)> {
+    let (own, _) = lines(own);
+    let (total, points) = own.split_last()?;
+    let [b"total", _, all, _] = fields(total)[..] else { return None };
+    if number(all)? as usize != points.len() || !points.iter().zip(1..).all(|(line, period)| has_period(line, period)) {
+        return None;
+    }
+    let cleared = points.iter().zip(1..).filter(|(line, period)| number(fields(line)[2]) != Some(*period)).count();
+    Some((points.len() as u64, cleared as u64))
 }

@@ -1,4 +1,4 @@
-//! The monitor program of document 01 with the nodes of document 02, text in and text out, written from their paragraphs.
+//! The monitor program of document 01 with the nodes and the period of document 02, text in and text out, written from their paragraphs.
 use crate::format::{lines, number, rules_from, signed};
 use crate::ring::{zone, Ring};
 use crate::{chart, refuse, Refusal, Rule};
@@ -46,7 +46,7 @@ fn read(text: &[u8]) -> Result<MonitorText, Refusal> {
     Ok(MonitorText { centre, step, rules, points })
 }
 
-/// A node's standing, its points and its signals.
+/// A node's standing, its points and its signals. At a point the period is the number of its node's points, with this one in it.
 #[derive(Clone, Default)]
 struct Node {
     ring: Ring,
@@ -59,16 +59,16 @@ pub fn monitor_program(text: &[u8]) -> Result<Vec<u8>, Refusal> {
     let MonitorText { centre, step, rules, points } = read(text)?;
     chart::check(&rules)?;
     zone(0, centre, step)?;
-    let mut out = Vec::with_capacity(16 * points.len() + 64);
+    let mut out = Vec::with_capacity(20 * points.len() + 320);
     let mut nodes: [Node; NODES] = Default::default();
     for (node, reading) in points {
         let Node { ring, points, signals } = &mut nodes[node as usize];
         *points += 1;
         let mask = ring.point(&rules, zone(reading, centre, step)?);
         if mask == 0 {
-            writeln!(out, "quiet,{node},{}", ring.count).expect("memory");
+            writeln!(out, "quiet,{node},{},{points}", ring.count).expect("memory");
         } else {
-            writeln!(out, "signal,{node},{},{mask}", ring.count).expect("memory");
+            writeln!(out, "signal,{node},{},{mask},{points}", ring.count).expect("memory");
             *signals += 1;
             ring.clear();
         }

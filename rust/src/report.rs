@@ -14,7 +14,7 @@ pub const NODES: usize = 16;
 pub const TABLE_SIZE: usize = 344_544;
 
 /// Room for the monitor program's lines for the longest text.
-pub const MONITOR_SIZE: usize = 262_744;
+pub const MONITOR_SIZE: usize = 334_827;
 
 /// Room for the weights program's line.
 pub const WEIGHTS_SIZE: usize = 96;
@@ -40,10 +40,11 @@ pub fn table_report(text: &[u8]) -> Result<Vec<u8>, Refusal> {
 /// The monitor program's lines for a text of a chart line, rule lines and point lines `point,node,reading`. Each node, 0 to 15, has a monitor
 /// of its own; the chart and the rules are common.
 ///
-/// A point is written, in the text's order, as `quiet,node,count` or `signal,node,count,mask`: the count is that of the node's points since
-/// its last signal, the mask the sum of 2^index over the rules that hold. Behind the last point each node that has points is written, in order
-/// of node, as `total,node,points,signals`. So a text without points has no lines. With the same chart and rules the lines of a node depend on
-/// its own points alone.
+/// A point is written, in the text's order, as `quiet,node,count,period` or `signal,node,count,mask,period`: the count is that of the node's
+/// points since its last signal, the mask the sum of 2^index over the rules that hold, and the period the number of the node's points since
+/// the start of the text, from 1, which goes on after a signal. Behind the last point each node that has points is written, in order of node,
+/// as `total,node,points,signals`. So a text without points has no lines. With the same chart and rules the lines of a node depend on its own
+/// points alone.
 ///
 /// Refused by 17; 16; 19; 2; then rule by rule 3, 4; 1, in this order.
 ///
@@ -52,8 +53,8 @@ pub fn table_report(text: &[u8]) -> Result<Vec<u8>, Refusal> {
 ///
 /// let opening = "chart,100,10\nrule,1,1,1\n";
 /// let report = |points: &str| monitor_report(format!("{opening}{points}").as_bytes());
-/// let lines = report("point,5,100\npoint,0,131\npoint,5,131\n");
-/// assert_eq!(lines, Ok(b"quiet,5,1\nsignal,0,1,1\nsignal,5,2,1\ntotal,0,1,1\ntotal,5,2,1\n".to_vec()));
+/// let lines = report("point,5,100\npoint,0,131\npoint,5,131\npoint,5,100\n");
+/// assert_eq!(lines, Ok(b"quiet,5,1,1\nsignal,0,1,1,1\nsignal,5,2,1,2\nquiet,5,1,3\ntotal,0,1,1\ntotal,5,3,1\n".to_vec()));
 /// // there is no node 16, and a point line has a node
 /// let refused = |points| report(points).map_err(|refusal| (refusal.number, refusal.place));
 /// assert_eq!(refused("point,5,100\npoint,16,100\n"), Err((19, 4)));

@@ -336,13 +336,14 @@ fn bench(points: &[(u32, i32)]) -> Result<String, Refusal> {
 #[test]
 fn every_node_has_a_chart_of_its_own() {
     let points = [(3, 121), (15, 121), (3, 100), (15, 131), (3, 121), (0, 100)];
-    let lines = "quiet,3,1\nquiet,15,1\nquiet,3,2\nsignal,15,2,1\nsignal,3,3,4\nquiet,0,1\ntotal,0,1,0\ntotal,3,3,1\ntotal,15,2,1\n";
-    assert_eq!(bench(&points), Ok(lines.into()));
+    let lines = "quiet,3,1,1\nquiet,15,1,1\nquiet,3,2,2\nsignal,15,2,1,2\nsignal,3,3,4,3\nquiet,0,1,1\n";
+    let totals = "total,0,1,0\ntotal,3,3,1\ntotal,15,2,1\n";
+    assert_eq!(bench(&points), Ok(format!("{lines}{totals}")));
     // the lines of a node are those of its own points alone
     for (node, own) in [
-        (0, "quiet,0,1\ntotal,0,1,0\n"),
-        (3, "quiet,3,1\nquiet,3,2\nsignal,3,3,4\ntotal,3,3,1\n"),
-        (15, "quiet,15,1\nsignal,15,2,1\ntotal,15,2,1\n"),
+        (0, "quiet,0,1,1\ntotal,0,1,0\n"),
+        (3, "quiet,3,1,1\nquiet,3,2,2\nsignal,3,3,4,3\ntotal,3,3,1\n"),
+        (15, "quiet,15,1,1\nsignal,15,2,1,2\ntotal,15,2,1\n"),
     ] {
         let alone: Vec<_> = points.into_iter().filter(|point| point.0 == node).collect();
         assert_eq!(bench(&alone), Ok(own.into()), "node {node}");
@@ -350,9 +351,24 @@ fn every_node_has_a_chart_of_its_own() {
 }
 
 #[test]
+fn the_period_goes_on_after_a_signal() {
+    let points = [(15, 121), (3, 100), (15, 131), (15, 121), (15, 121), (3, 100), (15, 121)];
+    let of_15 = "quiet,15,1,1\nsignal,15,2,1,2\nquiet,15,1,3\nsignal,15,2,4,4\nquiet,15,1,5\ntotal,15,5,2\n";
+    let lines = bench(&points).expect("accepted");
+    let own: Vec<&str> = lines.split_inclusive('\n').filter(|line| line.split(',').nth(1) == Some("15")).collect();
+    assert_eq!(own.concat(), of_15);
+    // each point signals: the count stays 1, and the period rises past 9, 99 and 999
+    let signals: String = (1..=1001).map(|period| format!("signal,7,1,1,{period}\n")).collect();
+    assert_eq!(bench(&[(7, 131); 1001]), Ok(signals + "total,7,1001,1001\n"));
+    // and without a signal it is the count
+    let quiet: String = (1..=1001).map(|period| format!("quiet,7,{period},{period}\n")).collect();
+    assert_eq!(bench(&[(7, 100); 1001]), Ok(quiet + "total,7,1001,0\n"));
+}
+
+#[test]
 fn nodes_are_totalled_in_their_order() {
     let points: Vec<_> = (0..NODES as u32).rev().map(|node| (node, 100)).collect();
-    let quiet: String = (0..NODES).rev().map(|node| format!("quiet,{node},1\n")).collect();
+    let quiet: String = (0..NODES).rev().map(|node| format!("quiet,{node},1,1\n")).collect();
     let totals: String = (0..NODES).map(|node| format!("total,{node},1,0\n")).collect();
     assert_eq!(bench(&points), Ok(quiet + &totals));
 }

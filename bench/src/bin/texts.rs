@@ -1,5 +1,6 @@
 //! Compares the three proved programs with the second implementation on many texts, good and damaged: every byte printed, every refusal,
-//! and the places of the buffer that must be kept. Each node of a monitor text is compared with itself alone, in both.
+//! and the places of the buffer that must be kept. Each node of a monitor text is compared with itself alone, in both, and its periods are
+//! counted.
 use bench::alone;
 use bench::inputs::Source;
 use bench::lent::{monitor_report, table_report, weights_report};
@@ -67,17 +68,20 @@ fn tables(count: u64) {
     assert!(miscounted > 0, "no text had seven or nine weights");
 }
 
-/// What was met of nodes: how many were compared with themselves alone; how many texts with a node over 15 were refused by 16; and of those
-/// refused by 19, what the program says of their opening lines.
+/// What was met of nodes: how many were compared with themselves alone; how many of their lines have a period, and how many another one than n;
+/// how many texts with a node over 15 were refused by 16; and of those refused by 19, what the program says of their opening lines.
 #[derive(Default)]
 struct NodesMet {
     alone: u64,
+    periods: u64,
+    cleared: u64,
     unread: u64,
     opening: Tally,
 }
 
 impl NodesMet {
-    /// Each node of an accepted text prints from its own points alone what it prints among the others, and no line is left over.
+    /// Each node of an accepted text prints from its own points alone what it prints among the others, with the periods 1, 2, 3 and so on up to
+    /// the points of its total, and no line is left over.
     fn compare_alone(&mut self, text: &[u8], printed: &[u8], out: &mut [u8; MONITOR_SIZE]) {
         let mut bytes = 0;
         for node in alone::nodes(text) {
@@ -87,6 +91,9 @@ impl NodesMet {
             assert!(out[..n] == expected[..], "proved, {}", shown());
             out[..n].fill(KEPT);
             assert!(monitor_program(&own).as_ref() == Ok(&expected), "plain, {}", shown());
+            let (periods, cleared) = alone::periods(&expected).unwrap_or_else(|| panic!("other periods, {}", shown()));
+            self.periods += periods;
+            self.cleared += cleared;
             bytes += expected.len();
             self.alone += 1;
         }
@@ -103,8 +110,9 @@ impl NodesMet {
     }
 
     fn report(&self) -> String {
-        let NodesMet { alone, unread, opening } = self;
-        format!(" ({alone} nodes print the same alone; 16 comes before 19 in {unread} texts, and 19 before these: {:?})", opening.refused)
+        let NodesMet { alone, periods, cleared, unread, opening } = self;
+        let counted = format!("{alone} nodes print the same alone; {periods} lines have their period, {cleared} of them behind a clearing");
+        format!(" ({counted}; 16 comes before 19 in {unread} texts, and 19 before these: {:?})", opening.refused)
     }
 }
 
@@ -131,7 +139,7 @@ fn monitors(count: u64) {
     }
     met.tally.report("monitor program", &nodes.report(), &[1, 2, 3, 4, 16, 17, 19]);
     let behind: Vec<u32> = nodes.opening.refused.keys().copied().collect();
-    assert!(nodes.alone > 0 && nodes.unread > 0 && nodes.opening.accepted > 0, "too little was met of nodes");
+    assert!(nodes.alone > 0 && nodes.cleared > 0 && nodes.unread > 0 && nodes.opening.accepted > 0, "too little was met of nodes");
     assert_eq!(behind, [1, 2, 3, 4], "the numbers that 19 came before, and those that it must come before");
 }
 

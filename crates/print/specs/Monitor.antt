@@ -20,17 +20,17 @@ signalWord = 115 ∷ 105 ∷ 103 ∷ 110 ∷ 97 ∷ 108 ∷ []
 abbrev pub totalWord : List ℕ
 totalWord = 116 ∷ 111 ∷ 116 ∷ 97 ∷ 108 ∷ []
 
--- quiet,node,n
-unfoldable pub quietLine : ℕ → ℕ → List ℕ
-quietLine node n = quietWord ++ field node ++ field n ++ newline
+-- quiet,node,n,period
+unfoldable pub quietLine : ℕ → ℕ → ℕ → List ℕ
+quietLine node n period = quietWord ++ field node ++ field n ++ field period ++ newline
 
--- signal,node,n,mask
-unfoldable pub signalLine : ℕ → ℕ → ℕ → List ℕ
-signalLine node n mask = signalWord ++ field node ++ field n ++ field mask ++ newline
+-- signal,node,n,mask,period
+unfoldable pub signalLine : ℕ → ℕ → ℕ → ℕ → List ℕ
+signalLine node n mask period = signalWord ++ field node ++ field n ++ field mask ++ field period ++ newline
 
 -- the line of a point: quiet where no rule holds
 unfoldable pub pointLine : PointLine → List ℕ
-pointLine p = cond (eqb (p .mask) 0) (quietLine (p .node) (p .count)) (signalLine (p .node) (p .count) (p .mask))
+pointLine p = cond (eqb (p .mask) 0) (quietLine (p .node) (p .count) (p .period)) (signalLine (p .node) (p .count) (p .mask) (p .period))
 
 -- total,node,points,signals
 unfoldable pub totalLine : ℕ → ℕ → ℕ → List ℕ
@@ -38,7 +38,7 @@ totalLine node points signals = totalWord ++ field node ++ field points ++ field
 
 -- the most bytes that each has; a signal's line is the longer one of a point
 abbrev pub pointRoom : ℕ
-pointRoom = length signalWord + shortField + shortField + shortField + length newline
+pointRoom = length signalWord + shortField + shortField + shortField + shortField + length newline
 
 abbrev pub totalRoom : ℕ
 totalRoom = length totalWord + shortField + shortField + shortField + length newline

@@ -7,14 +7,15 @@ ghost use lib.ListN.{length};
 ghost use Rattle.text.specs.Wrote.{Wrote};
 ghost use Rattle.print.specs.Monitor.{pointLine, pointRoom, totalLine, totalRoom};
 
-// What a point's line says: its node, its count since the node's last clearing, and the mask of the rules that hold: 0 is quiet.
+// What a point's line says: its node, its count since the node's last clearing, the mask of the rules that hold, 0 for quiet, and its period.
 pub struct PointLine {
     pub node: u32,
     pub count: u32,
     pub mask: u32,
+    pub period: u32,
 }
 
-// The line `quiet,node,n` or `signal,node,n,mask`.
+// The line `quiet,node,n,period` or `signal,node,n,mask,period`.
 pub fn put_point(out: &mut [u8], at: usize, line: PointLine) -> usize
     requires { ⌜ at + pointRoom ≤ length (now out) ⌝ }
     ensures { λ r. ⌜ Wrote (now (out .entry)) at (now (out .exit)) r (pointLine line) ⌝ }
@@ -23,12 +24,14 @@ pub fn put_point(out: &mut [u8], at: usize, line: PointLine) -> usize
     if line.mask == 0 {
         let a = put_short_named(out, at, b"quiet", line.node);
         let b = put_short_field(out, a, line.count);
-        return put_byte(out, b, b'\n');
+        let e = put_short_field(out, b, line.period);
+        return put_byte(out, e, b'\n');
     }
     let a = put_short_named(out, at, b"signal", line.node);
     let b = put_short_field(out, a, line.count);
     let e = put_short_field(out, b, line.mask);
-    put_byte(out, e, b'\n')
+    let f = put_short_field(out, e, line.period);
+    put_byte(out, f, b'\n')
 }
 
 // What a node's last line says: the node, its points and its signals.

@@ -29,8 +29,8 @@ const PERCENT: usize = 1 + FIELD + 1 + 7 + 2 * FIELD + 1;
 // All that the table program prints: the lines around its rows, the rows, and the lines of five percents.
 pub const TABLE_ROOM: usize = STANDINGS + HEADER + ROW * (MAX_ROWS as usize) + ARL + 5 * PERCENT;
 
-// `signal`, three fields of 32 bits, LF: the longest line of a point.
-pub const POINT_ROOM: usize = 6 + 3 * SHORT + 1;
+// `signal`, four fields of 32 bits, LF: the longest line of a point.
+pub const POINT_ROOM: usize = 6 + 4 * SHORT + 1;
 
 // `total`, three fields of 32 bits, LF.
 pub const TOTAL_ROOM: usize = 5 + 3 * SHORT + 1;

@@ -1,6 +1,6 @@
 -- CLAIMS: the lines printed for one node are those of its own readings: document 01's program would print them for these readings alone, without the
 -- node; and whatever the other nodes' points are, they are the same.
-use Prim.Native.Nat.{ℕ, zero, suc, _≤_, _<_}
+use Prim.Native.Nat.{ℕ, zero, suc, _+_, _≤_, _<_}
 use mathlib.Core.Path.{_≡_, refl, sym, ap, _∙_}
 use mathlib.Core.List.{List, [], _∷_, _++_, map, append-assoc, append-nil}
 use native.Mathlib.Omega.{arith}
@@ -19,7 +19,7 @@ use Rattle.print.specs.Monitor.{quietWord, signalWord, totalWord}
 use Rattle.print.specs.Refused.{refusedLine}
 use Rattle.report.specs.Printed.{printedBytes}
 use Rattle.report.specs.Points.{zonesOf, benchAnswers, signalsIn, nodeTotal, benchTotals, answerLines, totalLines, benchBytes}
-use Rattle.report.specs.ZonesLaws.{zones-append}
+use Rattle.report.specs.ZonesLaws.{zones-append, zones-length}
 use Rattle.report.specs.MonitorReport.{monitorPrinted}
 use Rattle.claims.specs.Exact.{freeAnswers}
 use Rattle.program_claims.specs.Texts.{MonitorTextIs}
@@ -27,9 +27,9 @@ use Rattle.program_claims.specs.MonitorBytes.{monitor-text-once}
 use Rattle.program_claims.specs.Programs.{plainChart, MonitorPrints, MonitorProgram, refuses, prints}
 use Rattle.program_claims.specs.MonitorProgram.{free-said, monitor-program}
 use Rattle.program_claims.specs.PrintedOnce.{plain-said}
-use Rattle.program_claims.specs.NodeLines.{linesIn, linesOf, withNode, aloneLines, aloneBytes}
-use Rattle.program_claims.specs.NodeLinesLaws.{word-line, with-node}
-use Rattle.program_claims.specs.NodeBytes.{plain, bodies, totalBody, totalsOf, OneByOne, node-lines, no-lines}
+use Rattle.program_claims.specs.NodeLines.{linesIn, linesOf, withNode, withPeriods, aloneLines, aloneBytes}
+use Rattle.program_claims.specs.NodeLinesLaws.{word-line, with-node, point-numbered, other-kept}
+use Rattle.program_claims.specs.NodeBytes.{plain, words, bodies, totalBody, totalsOf, OneByOne, inOrder, node-lines, no-lines}
 
 -- ---- the plain chart answers one reading after another
 
@@ -41,16 +41,23 @@ free-more rs (y ∷ zs) row z =
     let r = free-more rs zs (charted .row) z in
     (r .0, ap (λ (l : List Answer). charted .answer ∷ l) (r .1))
 
+free-length : (rs : List Rule) (zs row : List ℕ) → length (freeAnswers rs row zs) ≡ length zs
+unfolding freeAnswers
+free-length rs [] row = refl
+free-length rs (z ∷ zs) row = omega (arith, free-length rs zs (chartBy (rowMask rs (z ∷ row)) (z ∷ row) .row))
+
 pub one-by-one : (rs : List Rule) (centre : ℤ) (sigma : ℕ) → OneByOne (plainChart rs centre sigma)
 unfolding freeAnswers zonesOf
-one-by-one rs centre sigma = (
-  refl,
-  λ xs x.
-      let r = free-more rs (zonesOf centre sigma xs) [] _ in
-      (r .0, ap (freeAnswers rs []) (zones-append centre sigma xs (x ∷ [])) ∙ r .1),
-)
+one-by-one rs centre sigma =
+    record {
+      none = refl;
+      more = λ xs x.
+          let r = free-more rs (zonesOf centre sigma xs) [] _ in
+          (r .0, ap (freeAnswers rs []) (zones-append centre sigma xs (x ∷ [])) ∙ r .1);
+      each = λ xs. free-length rs (zonesOf centre sigma xs) [] ∙ zones-length centre sigma xs;
+    }
 
--- ---- document 01's lines, and the node after each first word
+-- ---- document 01's lines, each quiet and signal line with its period, and the node after each first word
 
 group1 : (w a n xs : List ℕ) → (w ++ (a ++ n)) ++ xs ≡ w ++ ((a ++ []) ++ (n ++ xs))
 group1 w a n xs = simp (append-assoc, append-nil)
@@ -59,41 +66,46 @@ group2 : (w a b n xs : List ℕ) → (w ++ (a ++ (b ++ n))) ++ xs ≡ w ++ ((a +
 group2 w a b n xs = simp (append-assoc, append-nil)
 
 module _ (k : ℕ) where
-  alone-more : (answers : List Answer) (rest : List ℕ) → EachAnswer Said answers
-      → map (withNode k) (linesIn (aloneLines answers ++ rest)) ≡ bodies k answers ++ map (withNode k) (linesIn rest)
-  unfolding aloneLines bodies EachAnswer fields newlines
-  alone-more [] rest i = refl
-  alone-more (refused n ∷ answers) rest i = absurd (i .0)
-  alone-more (quiet n ∷ answers) rest i =
+  -- the lines of answers from the period p on, before lines that get no period
+  alone-more : (answers : List Answer) (p : ℕ) (rest : List ℕ) (ls : List (List ℕ)) → ((q : ℕ) → withPeriods q (linesIn rest) ≡ ls) → EachAnswer Said answers
+      → map (withNode k) (withPeriods p (linesIn (aloneLines answers ++ rest))) ≡ bodies (inOrder k p answers) ++ map (withNode k) ls
+  unfolding aloneLines bodies inOrder EachAnswer fields newlines
+  alone-more [] p rest ls f i = ap (map (withNode k)) (f p)
+  alone-more (refused n ∷ answers) p rest ls f i = absurd (i .0)
+  alone-more (quiet n ∷ answers) p rest ls f i =
       let more = aloneLines answers ++ rest in
       let line = quietWord ++ (field n ++ newline) in
-      ap (λ l. map (withNode k) (linesIn l)) (append-assoc line (aloneLines answers) rest ∙ group1 quietWord (field n) newline more)
-      ∙ ap (map (withNode k)) (word-line quietWord (n ∷ []) more refl)
-      ∙ rw (with-node quietWord (plain .0) k n [], alone-more answers rest (i .1))
-  alone-more (signal n mask ∷ answers) rest i =
+      ap (λ l. map (withNode k) (withPeriods p (linesIn l))) (append-assoc line (aloneLines answers) rest ∙ group1 quietWord (field n) newline more)
+      ∙ ap (λ l. map (withNode k) (withPeriods p l)) (word-line quietWord (n ∷ []) more refl)
+      ∙ ap (map (withNode k)) (point-numbered quietWord (plain .0) n [] (linesIn more) (words .0) p)
+      ∙ rw (with-node quietWord (plain .0) k n (p ∷ []), alone-more answers (p + 1) rest ls f (i .1))
+  alone-more (signal n mask ∷ answers) p rest ls f i =
       let more = aloneLines answers ++ rest in
       let line = signalWord ++ (field n ++ (field mask ++ newline)) in
-      ap (λ l. map (withNode k) (linesIn l)) (append-assoc line (aloneLines answers) rest ∙ group2 signalWord (field n) (field mask) newline more)
-      ∙ ap (map (withNode k)) (word-line signalWord (n ∷ mask ∷ []) more refl)
-      ∙ rw (with-node signalWord (plain .1) k n (mask ∷ []), alone-more answers rest (i .1))
+      ap (λ l. map (withNode k) (withPeriods p (linesIn l)))
+      (append-assoc line (aloneLines answers) rest ∙ group2 signalWord (field n) (field mask) newline more)
+      ∙ ap (λ l. map (withNode k) (withPeriods p l)) (word-line signalWord (n ∷ mask ∷ []) more refl)
+      ∙ ap (map (withNode k)) (point-numbered signalWord (plain .1) n (mask ∷ []) (linesIn more) (words .1) p)
+      ∙ rw (with-node signalWord (plain .1) k n (mask ∷ p ∷ []), alone-more answers (p + 1) rest ls f (i .1))
 
   -- a line for each answer and the total, the node after each first word
   alone-lines : (answers : List Answer) → EachAnswer Said answers
-      → map (withNode k) (linesIn (aloneBytes answers)) ≡ bodies k answers ++ (totalBody k (length answers) (signalsIn answers) ∷ [])
-  unfolding aloneBytes fields newlines linesIn
+      → map (withNode k) (withPeriods 1 (linesIn (aloneBytes answers)))
+      ≡ bodies (inOrder k 1 answers) ++ (totalBody k (length answers) (signalsIn answers) ∷ [])
+  unfolding aloneBytes fields newlines linesIn withPeriods
   alone-lines answers i =
       let n = length answers in
       let m = signalsIn answers in
       let line = totalWord ++ (field n ++ (field m ++ newline)) in
       let shape : line ≡ totalWord ++ ((field n ++ (field m ++ [])) ++ (10 ∷ [])) = sym (append-nil line) ∙ group2 totalWord (field n) (field m) newline [] in
-      alone-more answers line i
-      ∙ ap (λ l. bodies k answers ++ map (withNode k) l) (ap linesIn shape ∙ word-line totalWord (n ∷ m ∷ []) [] refl)
+      let total : linesIn line ≡ (totalWord ++ fields (n ∷ m ∷ [])) ∷ [] = ap linesIn shape ∙ word-line totalWord (n ∷ m ∷ []) [] refl in
+      alone-more answers 1 line _ (λ q. ap (withPeriods q) total ∙ other-kept totalWord (plain .2) n (m ∷ []) [] (words .2) q) i
       ∙ rw (with-node totalWord (plain .2) k n (m ∷ []))
 
 -- ---- the lines of one node
 
 -- a node that is none of the bench's has no readings
-no-readings : (k : ℕ) → nodeCount ≤ k → (ps : List NodeReading) → OnBench ps → readingsOf k ps ≡ []
+pub no-readings : (k : ℕ) → nodeCount ≤ k → (ps : List NodeReading) → OnBench ps → readingsOf k ps ≡ []
 unfolding OnBench readingsOf
 no-readings k l [] o = refl
 no-readings k l (p ∷ ps) o = rw (ne-eqb (p .node) k (λ q. omega (arith, o .0)), no-readings k l ps (o .1))
@@ -111,35 +123,36 @@ some-answers rs centre sigma (x ∷ xs) n e = let z : _≡_ {A = ℕ} 0 1 = cc i
 
 -- the lines of a node that has readings xs
 abbrev linesBy : List Rule → ℤ → ℕ → ℕ → List ℤ → List (List ℕ)
-linesBy rs centre sigma k xs = bodies k (plainChart rs centre sigma xs) ++ totalsOf k (nodeTotal k (plainChart rs centre sigma xs))
+linesBy rs centre sigma k xs = bodies (inOrder k 1 (plainChart rs centre sigma xs)) ++ totalsOf k (nodeTotal k (plainChart rs centre sigma xs))
 
 module _ {centre : ℤ} {sigma : ℕ} {rs : List Rule} {ps : List NodeReading} {printed : List ℕ}
     (o : OnBench ps) (t : MonitorPrints centre sigma rs ps printed) (k : ℕ) where
-  below : k < nodeCount → linesOf k printed ≡ linesBy rs centre sigma k (readingsOf k ps)
+  pub below : k < nodeCount → linesOf k printed ≡ linesBy rs centre sigma k (readingsOf k ps)
   below l = ap (linesOf k) (t .lines) ∙ node-lines (plainChart rs centre sigma) (one-by-one rs centre sigma) k ps (plain-said rs centre sigma ps) l
 
-  beyond : nodeCount ≤ k → linesOf k printed ≡ []
+  pub beyond : nodeCount ≤ k → linesOf k printed ≡ []
   beyond l =
       ap (linesOf k) (t .lines)
       ∙ no-lines (plainChart rs centre sigma) (one-by-one rs centre sigma) k ps (plain-said rs centre sigma ps) l (no-readings k l ps o)
 
-  -- A node with a point: its lines are those that document 01's program prints for its readings alone, with the node after the first word.
+  -- A node with a point: its lines are those that document 01's program prints for its readings alone, each quiet and signal line with its number behind
+  -- it, from 1, and each line with the node after the first word.
   pub node-alone : (readingsOf k ps ≡ [] → ⊥)
-      → linesOf k printed ≡ map (withNode k) (linesIn (aloneBytes (plainChart rs centre sigma (readingsOf k ps))))
+      → linesOf k printed ≡ map (withNode k) (withPeriods 1 (linesIn (aloneBytes (plainChart rs centre sigma (readingsOf k ps)))))
   node-alone n = go (ltb k nodeCount) refl
     where
       go : (b : Bool) → ltb k nodeCount ≡ b
-          → linesOf k printed ≡ map (withNode k) (linesIn (aloneBytes (plainChart rs centre sigma (readingsOf k ps))))
+          → linesOf k printed ≡ map (withNode k) (withPeriods 1 (linesIn (aloneBytes (plainChart rs centre sigma (readingsOf k ps)))))
       go true e =
           let xs = readingsOf k ps in
           below (ltb-true _ _ e)
-          ∙ ap (λ l. bodies k (plainChart rs centre sigma xs) ++ l) (own-total k (plainChart rs centre sigma xs) (some-answers rs centre sigma xs n))
+          ∙ ap (λ l. bodies (inOrder k 1 (plainChart rs centre sigma xs)) ++ l) (own-total k (plainChart rs centre sigma xs) (some-answers rs centre sigma xs n))
           ∙ sym (alone-lines k (plainChart rs centre sigma xs) (free-said rs (zonesOf centre sigma xs) []))
       go false e = absurd (n (no-readings k (ltb-false _ _ e) ps o))
 
   -- A node with none has no line.
   pub node-without : readingsOf k ps ≡ [] → linesOf k printed ≡ []
-  unfolding bodies freeAnswers zonesOf totalsOf
+  unfolding bodies inOrder freeAnswers zonesOf totalsOf
   node-without n = go (ltb k nodeCount) refl
     where
       go : (b : Bool) → ltb k nodeCount ≡ b → linesOf k printed ≡ []
@@ -187,11 +200,11 @@ isolation a a′ is is′ k e =
     let t′ = accepted-prints a′ is′ in
     same-lines (t .0) (t .1) (t′ .0) (t′ .1) k e
 
--- In an accepted text the lines of a node that has a point are those that document 01's program would print for its readings alone, with the node
--- after the first word.
+-- In an accepted text the lines of a node that has a point are those that document 01's program would print for its readings alone, each quiet and
+-- signal line with its number behind it, 1, 2, 3, .., and each line with the node after the first word.
 pub alone : {s : List ℕ} {centre : ℤ} {sigma : ℕ} {rs : List Rule} {ps : List NodeReading} → Accepted s → MonitorTextIs s centre sigma rs ps
     → (k : ℕ) → (readingsOf k ps ≡ [] → ⊥)
-    → linesOf k (printedBytes (monitorPrinted s)) ≡ map (withNode k) (linesIn (aloneBytes (plainChart rs centre sigma (readingsOf k ps))))
+    → linesOf k (printedBytes (monitorPrinted s)) ≡ map (withNode k) (withPeriods 1 (linesIn (aloneBytes (plainChart rs centre sigma (readingsOf k ps)))))
 alone a is k n =
     let t = accepted-prints a is in
     node-alone (t .0) (t .1) k n

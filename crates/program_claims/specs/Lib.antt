@@ -16,6 +16,7 @@ pub mod NodeLinesLaws
 pub mod NodeBytes
 pub mod Isolation
 pub mod OneNode
+pub mod Periods
 pub mod WeightsTexts
 pub mod WeightsBytes
 pub mod WeightsProgram

@@ -28,6 +28,9 @@ group2 w a b n xs = simp (append-assoc, append-nil)
 group3 : (w a b c n xs : List ℕ) → w ++ a ++ b ++ c ++ n ++ xs ≡ w ++ ((a ++ (b ++ (c ++ []))) ++ (n ++ xs))
 group3 w a b c n xs = simp (append-assoc, append-nil)
 
+group4 : (w a b c d n xs : List ℕ) → w ++ a ++ b ++ c ++ d ++ n ++ xs ≡ w ++ ((a ++ (b ++ (c ++ (d ++ [])))) ++ (n ++ xs))
+group4 w a b c d n xs = simp (append-assoc, append-nil)
+
 standings-shape : (n : ℕ) (xs : List ℕ) → standingsLine n ++ xs ≡ standingsWord ++ (fields (n ∷ []) ++ (10 ∷ xs))
 unfolding standingsLine field fields
 standings-shape n xs = simp append-assoc
@@ -44,13 +47,13 @@ refused-shape : (n p : ℕ) (xs : List ℕ) → refusedLine n p ++ xs ≡ refuse
 unfolding refusedLine field fields
 refused-shape n p xs = group2 refusedWord (field n) (field p) lf xs
 
-pub quiet-shape : (node n : ℕ) (xs : List ℕ) → quietLine node n ++ xs ≡ quietWord ++ (fields (node ∷ n ∷ []) ++ (10 ∷ xs))
+pub quiet-shape : (node n p : ℕ) (xs : List ℕ) → quietLine node n p ++ xs ≡ quietWord ++ (fields (node ∷ n ∷ p ∷ []) ++ (10 ∷ xs))
 unfolding quietLine field fields
-quiet-shape node n xs = group2 quietWord (field node) (field n) lf xs
+quiet-shape node n p xs = group3 quietWord (field node) (field n) (field p) lf xs
 
-pub signal-shape : (node n m : ℕ) (xs : List ℕ) → signalLine node n m ++ xs ≡ signalWord ++ (fields (node ∷ n ∷ m ∷ []) ++ (10 ∷ xs))
+pub signal-shape : (node n m p : ℕ) (xs : List ℕ) → signalLine node n m p ++ xs ≡ signalWord ++ (fields (node ∷ n ∷ m ∷ p ∷ []) ++ (10 ∷ xs))
 unfolding signalLine field fields
-signal-shape node n m xs = group3 signalWord (field node) (field n) (field m) lf xs
+signal-shape node n m p xs = group4 signalWord (field node) (field n) (field m) (field p) lf xs
 
 pub total-shape : (node n m : ℕ) (xs : List ℕ) → totalLine node n m ++ xs ≡ totalWord ++ (fields (node ∷ n ∷ m ∷ []) ++ (10 ∷ xs))
 unfolding totalLine field fields
@@ -74,15 +77,16 @@ module _ {xs ys : List ℕ} where
       let o = line-once refusedWord _ _ _ _ (sym (refused-shape n p xs) ∙ e ∙ refused-shape n′ p′ ys) in
       (cc (o .0), cc (o .0), o .1)
 
-  pub quiet-once : (k n k′ n′ : ℕ) → quietLine k n ++ xs ≡ quietLine k′ n′ ++ ys → (k ≡ k′) × (n ≡ n′) × (xs ≡ ys)
-  quiet-once k n k′ n′ e =
-      let o = line-once quietWord _ _ _ _ (sym (quiet-shape k n xs) ∙ e ∙ quiet-shape k′ n′ ys) in
-      (cc (o .0), cc (o .0), o .1)
-
-  pub signal-once : (k n m k′ n′ m′ : ℕ) → signalLine k n m ++ xs ≡ signalLine k′ n′ m′ ++ ys → (k ≡ k′) × (n ≡ n′) × (m ≡ m′) × (xs ≡ ys)
-  signal-once k n m k′ n′ m′ e =
-      let o = line-once signalWord _ _ _ _ (sym (signal-shape k n m xs) ∙ e ∙ signal-shape k′ n′ m′ ys) in
+  pub quiet-once : (k n p k′ n′ p′ : ℕ) → quietLine k n p ++ xs ≡ quietLine k′ n′ p′ ++ ys → (k ≡ k′) × (n ≡ n′) × (p ≡ p′) × (xs ≡ ys)
+  quiet-once k n p k′ n′ p′ e =
+      let o = line-once quietWord _ _ _ _ (sym (quiet-shape k n p xs) ∙ e ∙ quiet-shape k′ n′ p′ ys) in
       (cc (o .0), cc (o .0), cc (o .0), o .1)
+
+  pub signal-once : (k n m p k′ n′ m′ p′ : ℕ) → signalLine k n m p ++ xs ≡ signalLine k′ n′ m′ p′ ++ ys
+      → (k ≡ k′) × (n ≡ n′) × (m ≡ m′) × (p ≡ p′) × (xs ≡ ys)
+  signal-once k n m p k′ n′ m′ p′ e =
+      let o = line-once signalWord _ _ _ _ (sym (signal-shape k n m p xs) ∙ e ∙ signal-shape k′ n′ m′ p′ ys) in
+      (cc (o .0), cc (o .0), cc (o .0), cc (o .0), o .1)
 
   pub total-once : (k n m k′ n′ m′ : ℕ) → totalLine k n m ++ xs ≡ totalLine k′ n′ m′ ++ ys → (k ≡ k′) × (n ≡ n′) × (m ≡ m′) × (xs ≡ ys)
   total-once k n m k′ n′ m′ e =

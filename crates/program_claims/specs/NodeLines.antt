@@ -1,7 +1,8 @@
--- TO BELIEVE: the lines of printed bytes, those of them that are a node's, and what document 01's monitor program prints for one chart. Definitions.
-use Prim.Native.Nat.{ℕ}
-use mathlib.Core.Bool.{Bool, true, false, cond}
-use mathlib.Core.List.{List, [], _∷_, _++_}
+-- TO BELIEVE: the lines of printed bytes, those of them that are a node's, their last fields, and what document 01's monitor program prints for one chart.
+-- Definitions.
+use Prim.Native.Nat.{ℕ, zero, suc, _+_}
+use mathlib.Core.Bool.{Bool, true, false, cond, _||_}
+use mathlib.Core.List.{List, [], _∷_, _++_, map}
 use lib.Dec.{eqb}
 use lib.ListN.{length}
 use Rattle.monitor.specs.ReferenceChart.{Answer, refused, quiet, signal}
@@ -52,9 +53,41 @@ ofNode node (l ∷ ls) = cond (sameBytes (beforeComma (behindComma l)) (decimal 
 unfoldable pub linesOf : ℕ → List ℕ → List (List ℕ)
 linesOf node bytes = ofNode node (linesIn bytes)
 
+-- the word is `quiet` or `signal`
+unfoldable pub ofPoint : List ℕ → Bool
+ofPoint word = sameBytes word quietWord || sameBytes word signalWord
+
+-- the quiet and signal lines: those with this first word
+unfoldable pub pointsIn : List (List ℕ) → List (List ℕ)
+pointsIn [] = []
+pointsIn (l ∷ ls) = cond (ofPoint (beforeComma l)) (l ∷ pointsIn ls) (pointsIn ls)
+
+-- what stands behind the last comma of bytes and a line, where no comma is among the bytes
+unfoldable pub sinceComma : List ℕ → List ℕ → List ℕ
+sinceComma bytes [] = bytes
+sinceComma bytes (b ∷ line) = cond (eqb b 44) (sinceComma [] line) (sinceComma (bytes ++ (b ∷ [])) line)
+
+-- the last field of a line
+abbrev pub lastField : List ℕ → List ℕ
+lastField l = sinceComma [] l
+
+-- the period fields of a node: the last ones of its quiet and signal lines, in their order
+abbrev pub periodFields : ℕ → List ℕ → List (List ℕ)
+periodFields node bytes = map lastField (pointsIn (linesOf node bytes))
+
+-- n, n + 1, .., so many of them
+unfoldable pub countFrom : ℕ → ℕ → List ℕ
+countFrom n zero = []
+countFrom n (suc many) = n ∷ countFrom (n + 1) many
+
 -- a line with the node after its first word
 unfoldable pub withNode : ℕ → List ℕ → List ℕ
 withNode node l = beforeComma l ++ (field node ++ (comma ++ behindComma l))
+
+-- lines in which each quiet and signal line has a last field more: the number of such lines up to it, from n
+unfoldable pub withPeriods : ℕ → List (List ℕ) → List (List ℕ)
+withPeriods n [] = []
+withPeriods n (l ∷ ls) = cond (ofPoint (beforeComma l)) ((l ++ field n) ∷ withPeriods (n + 1) ls) (l ∷ withPeriods n ls)
 
 -- ---- document 01's lines for one chart
 

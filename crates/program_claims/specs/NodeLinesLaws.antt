@@ -2,16 +2,17 @@
 use Prim.Native.Nat.{ℕ, zero, suc, _+_, _/_, _%_}
 use mathlib.Core.Path.{_≡_, refl, sym, ap, _∙_}
 use mathlib.Core.Bool.{Bool, true, false, cond}
-use mathlib.Core.List.{List, [], _∷_, _++_, append-assoc}
+use mathlib.Core.List.{List, [], _∷_, _++_, append-assoc, append-nil}
 use native.Mathlib.Omega.{arith}
 use lib.Dec.{eqb}
 use borrow.Author.Tests.{eq-eqb, ne-eqb, eqb-true}
 use Rattle.text.specs.Decimal.{digitByte, digitsOf, decimal}
 use Rattle.text.specs.Format.{field, fields}
+use Rattle.text.specs.FieldsLaws.{fields-snoc}
 use Rattle.text.specs.Word.{newlines}
 use Rattle.text.specs.NewlineLaws.{newlines-append, newlines-fields}
 use Rattle.program_claims.specs.NumberOnce.{decimal-once}
-use Rattle.program_claims.specs.NodeLines.{linesIn, beforeComma, behindComma, sameBytes, ofNode, withNode}
+use Rattle.program_claims.specs.NodeLines.{linesIn, beforeComma, behindComma, sameBytes, ofNode, ofPoint, pointsIn, sinceComma, lastField, withNode, withPeriods}
 
 -- ---- where a line ends
 
@@ -101,6 +102,58 @@ module _ (word : List ℕ) (plain : NoComma word) (k : ℕ) (node n : ℕ) (ns :
       go : (t : Bool) → sameBytes (decimal node) (decimal k) ≡ t → cond t ((word ++ fields (node ∷ n ∷ ns)) ∷ ofNode k ls) (ofNode k ls) ≡ ofNode k ls
       go true q = absurd (d (decimal-once node k (bytes-same (decimal node) (decimal k) q)))
       go false q = refl
+
+-- ---- quiet and signal lines, and their last fields
+
+-- a number more
+fields-more : (word ns : List ℕ) (p : ℕ) → (word ++ fields ns) ++ field p ≡ word ++ fields (ns ++ (p ∷ []))
+fields-more word ns p = append-assoc word (fields ns) (field p) ∙ ap (λ l. word ++ l) (sym (fields-snoc ns p))
+
+-- a line of a word and numbers is of a point or not by its word: it is kept, and gets its number; or it is neither
+module _ (word : List ℕ) (plain : NoComma word) (n : ℕ) (ns : List ℕ) (ls : List (List ℕ)) where
+  abbrev line : List ℕ
+  line = word ++ fields (n ∷ ns)
+
+  first-word : beforeComma line ≡ word
+  unfolding fields field
+  first-word = before-comma word (decimal n ++ fields ns) plain
+
+  pub point-kept : ofPoint word ≡ true → pointsIn (line ∷ ls) ≡ line ∷ pointsIn ls
+  unfolding pointsIn
+  point-kept e = rw (first-word, e)
+
+  pub other-left : ofPoint word ≡ false → pointsIn (line ∷ ls) ≡ pointsIn ls
+  unfolding pointsIn
+  other-left e = rw (first-word, e)
+
+  pub point-numbered : ofPoint word ≡ true → (p : ℕ) → withPeriods p (line ∷ ls) ≡ (word ++ fields (n ∷ (ns ++ (p ∷ [])))) ∷ withPeriods (p + 1) ls
+  unfolding withPeriods
+  point-numbered e p = rw (first-word, e, fields-more word (n ∷ ns) p)
+
+  pub other-kept : ofPoint word ≡ false → (p : ℕ) → withPeriods p (line ∷ ls) ≡ line ∷ withPeriods p ls
+  unfolding withPeriods
+  other-kept e p = rw (first-word, e)
+
+-- what stands behind a comma, whatever stands before it
+last-behind : (since xs rest : List ℕ) → sinceComma since (xs ++ (44 ∷ rest)) ≡ lastField rest
+unfolding sinceComma
+last-behind since [] rest = refl
+last-behind since (x ∷ xs) rest = go (eqb x 44) (last-behind [] xs rest) (last-behind (since ++ (x ∷ [])) xs rest)
+  where
+    go : (b : Bool) {e f : List ℕ} → e ≡ lastField rest → f ≡ lastField rest → cond b e f ≡ lastField rest
+    go true p q = p
+    go false p q = q
+
+last-plain : (since xs : List ℕ) → NoComma xs → sinceComma since xs ≡ since ++ xs
+unfolding NoComma sinceComma
+last-plain since [] p = sym (append-nil since)
+last-plain since (x ∷ xs) p = rw (p .0) (last-plain (since ++ (x ∷ [])) xs (p .1) ∙ append-assoc since (x ∷ []) xs)
+
+-- the last of a line's numbers
+pub last-number : (word ns : List ℕ) (n : ℕ) → lastField (word ++ fields (ns ++ (n ∷ []))) ≡ decimal n
+unfolding field
+last-number word ns n =
+    ap lastField (sym (fields-more word ns n)) ∙ last-behind [] (word ++ fields ns) (decimal n) ∙ last-plain [] (decimal n) (no-comma-decimal n)
 
 -- ---- the node put after the first word
 

@@ -3,6 +3,7 @@ use Prim.Native.Nat.{ℕ, zero, suc}
 use mathlib.Core.Path.{_≡_, refl, sym, ap, _∙_}
 use mathlib.Core.List.{List, [], _∷_, _++_, append-assoc}
 use native.Mathlib.Decide.{ℕ-discrete}
+use lib.ListN.{length}
 use lib.IntN.{ℤ}
 use borrow.Author.Tests.{eq-eqb, ne-eqb}
 use Rattle.rules.specs.declared.Rule.{Rule}
@@ -12,12 +13,12 @@ use Rattle.text.specs.Format.{fields}
 use Rattle.parse.specs.Readings.{NodeReading, nodeCount, readingsOf}
 use Rattle.print.specs.Monitor.{quietWord, signalWord, totalWord}
 use Rattle.report.specs.Printed.{printedBytes}
-use Rattle.report.specs.Points.{NodeAnswer, NodeTotal, lastAnswer, benchAnswers, nodeTotal, benchTotals, lineOf, answerLines, totalLines, benchBytes}
+use Rattle.report.specs.Points.{NodeAnswer, NodeTotal, lastAnswer, pointAnswer, benchAnswers, nodeTotal, benchTotals, lineOf, answerLines, totalLines, benchBytes}
 use Rattle.report.specs.MonitorReport.{monitorPrinted}
 use Rattle.program_claims.specs.LinesOnce.{quiet-shape, signal-shape, total-shape}
 use Rattle.program_claims.specs.Texts.{MonitorTextIs}
 use Rattle.program_claims.specs.Programs.{plainChart}
-use Rattle.program_claims.specs.PrintedOnce.{EachSaid, plain-said}
+use Rattle.program_claims.specs.PrintedOnce.{EachSaid, lineAt, plain-said}
 use Rattle.program_claims.specs.NodeLines.{linesOf, withEnds}
 use Rattle.program_claims.specs.NodeBytes.{body, bodies, answersOf, totalsOf, OneByOne, answers-of, totals-of}
 use Rattle.program_claims.specs.Isolation.{Accepted, one-by-one, accepted-prints, isolation}
@@ -47,11 +48,11 @@ unfolding OnlyTotals
 totals-append k [] ys i j = j
 totals-append k (t ∷ xs) ys i j = (i .0, totals-append k xs ys (i .1) j)
 
-last-only : (k node : ℕ) → node ≡ k → (answers : List Answer) → OnlyAnswers k (lastAnswer node answers)
+last-only : (k node : ℕ) → node ≡ k → (answers : List Answer) (period : ℕ) → OnlyAnswers k (lastAnswer node answers period)
 unfolding OnlyAnswers lastAnswer
-last-only k node e [] = tt
-last-only k node e (a ∷ []) = (e, tt)
-last-only k node e (a ∷ b ∷ rest) = last-only k node e (b ∷ rest)
+last-only k node e [] period = tt
+last-only k node e (a ∷ []) period = (e, tt)
+last-only k node e (a ∷ b ∷ rest) period = last-only k node e (b ∷ rest) period
 
 other-readings : (k n : ℕ) (ps : List NodeReading) → OnlyNode k ps → (n ≡ k → ⊥) → readingsOf n ps ≡ []
 unfolding OnlyNode readingsOf
@@ -63,8 +64,9 @@ module _ (chart : List ℤ → List Answer) (one : OneByOne chart) (k : ℕ) whe
   unfolding OnlyNode OnlyAnswers benchAnswers
   answers-only before [] o = tt
   answers-only before (p ∷ ps) o =
-      only-append k (lastAnswer (p .node) (chart (readingsOf (p .node) (before ++ (p ∷ []))))) (benchAnswers chart (before ++ (p ∷ [])) ps)
-      (last-only k (p .node) (o .0) (chart (readingsOf (p .node) (before ++ (p ∷ []))))) (answers-only (before ++ (p ∷ [])) ps (o .1))
+      let xs = readingsOf (p .node) (before ++ (p ∷ [])) in
+      only-append k (pointAnswer chart (p .node) xs) (benchAnswers chart (before ++ (p ∷ [])) ps)
+      (last-only k (p .node) (o .0) (chart xs) (length xs)) (answers-only (before ++ (p ∷ [])) ps (o .1))
 
   own-only : (answers : List Answer) → OnlyTotals k (nodeTotal k answers)
   unfolding OnlyTotals
@@ -77,7 +79,7 @@ module _ (chart : List ℤ → List Answer) (one : OneByOne chart) (k : ℕ) whe
     where
       go : Dec (n ≡ k) → OnlyTotals k (nodeTotal n (chart (readingsOf n ps)))
       go (yes q) = rw q (own-only (chart (readingsOf k ps)))
-      go (no d) = rw (other-readings k n ps o d, one .0) tt
+      go (no d) = rw (other-readings k n ps o d, one .none) tt
 
   totals-only : (n : ℕ) (ps : List NodeReading) → OnlyNode k ps → OnlyTotals k (benchTotals chart ps n)
   unfolding OnlyTotals benchTotals
@@ -87,10 +89,10 @@ module _ (chart : List ℤ → List Answer) (one : OneByOne chart) (k : ℕ) whe
 
 -- ---- their lines are all of the lines
 
-answer-line : (k : ℕ) (a : Answer) → Said a → (rest : List ℕ) → body k a ++ (10 ∷ rest) ≡ lineOf k a ++ rest
-answer-line k (refused n) i rest = absurd i
-answer-line k (quiet n) i rest = append-assoc quietWord (fields (k ∷ n ∷ [])) (10 ∷ rest) ∙ sym (quiet-shape k n rest)
-answer-line k (signal n mask) i rest = append-assoc signalWord (fields (k ∷ n ∷ mask ∷ [])) (10 ∷ rest) ∙ sym (signal-shape k n mask rest)
+answer-line : (k : ℕ) (a : Answer) (p : ℕ) → Said a → (rest : List ℕ) → body k a p ++ (10 ∷ rest) ≡ lineOf k a p ++ rest
+answer-line k (refused n) p i rest = absurd i
+answer-line k (quiet n) p i rest = append-assoc quietWord (fields (k ∷ n ∷ p ∷ [])) (10 ∷ rest) ∙ sym (quiet-shape k n p rest)
+answer-line k (signal n mask) p i rest = append-assoc signalWord (fields (k ∷ n ∷ mask ∷ p ∷ [])) (10 ∷ rest) ∙ sym (signal-shape k n mask p rest)
 
 ends-totals : (k : ℕ) (ts : List NodeTotal) → OnlyTotals k ts → withEnds (totalsOf k ts) ≡ totalLines ts
 unfolding OnlyTotals totalsOf withEnds totalLines
@@ -101,14 +103,13 @@ ends-totals k (t ∷ ts) o =
     ∙ sym (total-shape (t .node) (t .points) (t .signals) (totalLines ts)))
 
 ends-lines : (k : ℕ) (os : List NodeAnswer) (ts : List NodeTotal) → EachSaid os → OnlyAnswers k os → OnlyTotals k ts
-    → withEnds (bodies k (answersOf k os) ++ totalsOf k ts) ≡ answerLines os ++ totalLines ts
+    → withEnds (bodies (answersOf k os) ++ totalsOf k ts) ≡ answerLines os ++ totalLines ts
 unfolding EachSaid OnlyAnswers answersOf bodies withEnds answerLines
 ends-lines k [] ts i o t = ends-totals k ts t
 ends-lines k (a ∷ os) ts i o t =
     rw (eq-eqb (a .node) k (o .0), ends-lines k os ts (i .1) (o .1) t)
-    (ap (λ n. body n (a .answer) ++ (10 ∷ (answerLines os ++ totalLines ts))) (sym (o .0))
-    ∙ answer-line (a .node) (a .answer) (i .0) (answerLines os ++ totalLines ts)
-    ∙ sym (append-assoc (lineOf (a .node) (a .answer)) (answerLines os) (totalLines ts)))
+    (answer-line (a .node) (a .answer) (a .period) (i .0) (answerLines os ++ totalLines ts)
+    ∙ sym (append-assoc (lineAt a) (answerLines os) (totalLines ts)))
 
 only-lines : (rs : List Rule) (centre : ℤ) (sigma k : ℕ) (ps : List NodeReading) → OnlyNode k ps
     → withEnds (linesOf k (benchBytes (plainChart rs centre sigma) ps)) ≡ benchBytes (plainChart rs centre sigma) ps
@@ -119,7 +120,7 @@ only-lines rs centre sigma k ps o =
     let said = plain-said rs centre sigma ps in
     let os = benchAnswers chart [] ps in
     let ts = benchTotals chart ps nodeCount in
-    ap withEnds (answers-of k os (totalLines ts) said ∙ ap (λ l. bodies k (answersOf k os) ++ l) (totals-of k ts))
+    ap withEnds (answers-of k os (totalLines ts) said ∙ ap (λ l. bodies (answersOf k os) ++ l) (totals-of k ts))
     ∙ ends-lines k os ts said (answers-only chart one k [] ps o) (totals-only chart one k nodeCount ps o)
 
 -- Two texts that are both accepted and have the same opening lines, the second with the points of one node alone, and that node's readings the same in

@@ -6,7 +6,7 @@ use mathlib.Core.List.{List, [], _∷_, _++_, append-assoc, append-nil}
 use native.Mathlib.Omega.{arith}
 use lib.Dec.{ltb}
 use lib.IntN.{ℤ}
-use lib.ListN.{getD}
+use lib.ListN.{length, getD}
 use borrow.Author.Tests.{ltb-true, ltb-false}
 use Rattle.rules.specs.declared.Rule.{Rule}
 use Rattle.monitor.specs.ReferenceChart.{Answer, refused, quiet, signal}
@@ -20,7 +20,7 @@ use Rattle.print.specs.RowLine.{standingsLine, headerLine, rowLine, arlLine}
 use Rattle.print.specs.PercentLine.{percentLine}
 use Rattle.report.specs.Printed.{printedBytes}
 use Rattle.parse.specs.Readings.{NodeReading, nodeCount, readingsOf}
-use Rattle.report.specs.Points.{zonesOf, NodeAnswer, nodeAnswer, NodeTotal, lastAnswer, benchAnswers, benchTotals, lineOf, answerLines, totalLines, benchBytes}
+use Rattle.report.specs.Points.{zonesOf, NodeAnswer, nodeAnswer, NodeTotal, lastAnswer, pointAnswer, benchAnswers, benchTotals, lineOf, answerLines, totalLines, benchBytes}
 use Rattle.report.specs.TableReport.{tablePrinted}
 use Rattle.report.specs.MonitorReport.{monitorPrinted}
 use Rattle.program_claims.specs.Texts.{TableTextIs, MonitorTextIs}
@@ -180,23 +180,26 @@ EachSaid [] = Unit {0}
 EachSaid (a ∷ rest) = Said (a .answer) × EachSaid rest
 
 -- lines of answers begin with `q` or `s`, totals with `t`
-one-once : {xs ys : List ℕ} (k k′ : ℕ) (a b : Answer) → Said a → Said b → lineOf k a ++ xs ≡ lineOf k′ b ++ ys → (k ≡ k′) × (a ≡ b) × (xs ≡ ys)
+one-once : {xs ys : List ℕ} (k p k′ p′ : ℕ) (a b : Answer) → Said a → Said b → lineOf k a p ++ xs ≡ lineOf k′ b p′ ++ ys
+    → (k ≡ k′) × (a ≡ b) × (p ≡ p′) × (xs ≡ ys)
 unfolding quietLine signalLine
-one-once k k′ (refused n) b i j e = absurd i
-one-once k k′ (quiet n) (refused m) i j e = absurd j
-one-once k k′ (quiet n) (quiet m) i j e = let o = quiet-once k n k′ m e in (o .0, ap quiet (o .1), o .2)
-one-once k k′ (quiet n) (signal m mask) i j e = let z : _≡_ {A = ℕ} 113 115 = ap (λ l. getD l 0 0) e in absurd (omega arith)
-one-once k k′ (signal n mask) (refused m) i j e = absurd j
-one-once k k′ (signal n mask) (quiet m) i j e = let z : _≡_ {A = ℕ} 115 113 = ap (λ l. getD l 0 0) e in absurd (omega arith)
-one-once k k′ (signal n mask) (signal m mask′) i j e = let o = signal-once k n mask k′ m mask′ e in (o .0, cc (o .1, o .2), o .3)
+one-once k p k′ p′ (refused n) b i j e = absurd i
+one-once k p k′ p′ (quiet n) (refused m) i j e = absurd j
+one-once k p k′ p′ (quiet n) (quiet m) i j e = let o = quiet-once k n p k′ m p′ e in (o .0, ap quiet (o .1), o .2, o .3)
+one-once k p k′ p′ (quiet n) (signal m mask) i j e = let z : _≡_ {A = ℕ} 113 115 = ap (λ l. getD l 0 0) e in absurd (omega arith)
+one-once k p k′ p′ (signal n mask) (refused m) i j e = absurd j
+one-once k p k′ p′ (signal n mask) (quiet m) i j e = let z : _≡_ {A = ℕ} 115 113 = ap (λ l. getD l 0 0) e in absurd (omega arith)
+one-once k p k′ p′ (signal n mask) (signal m mask′) i j e =
+    let o = signal-once k n mask p k′ m mask′ p′ e in
+    (o .0, cc (o .1, o .2), o .3, o .4)
 
-no-total : (xs : List ℕ) (k : ℕ) (a : Answer) → Said a → (ts : List NodeTotal) → lineOf k a ++ xs ≡ totalLines ts → ⊥
+no-total : (xs : List ℕ) (k p : ℕ) (a : Answer) → Said a → (ts : List NodeTotal) → lineOf k a p ++ xs ≡ totalLines ts → ⊥
 unfolding quietLine signalLine totalLine totalLines
-no-total xs k (refused n) i ts e = i
-no-total xs k (quiet n) i [] e = let z : _≡_ {A = ℕ} 113 0 = ap (λ l. getD l 0 0) e in omega arith
-no-total xs k (quiet n) i (t ∷ ts) e = let z : _≡_ {A = ℕ} 113 116 = ap (λ l. getD l 0 0) e in omega arith
-no-total xs k (signal n mask) i [] e = let z : _≡_ {A = ℕ} 115 0 = ap (λ l. getD l 0 0) e in omega arith
-no-total xs k (signal n mask) i (t ∷ ts) e = let z : _≡_ {A = ℕ} 115 116 = ap (λ l. getD l 0 0) e in omega arith
+no-total xs k p (refused n) i ts e = i
+no-total xs k p (quiet n) i [] e = let z : _≡_ {A = ℕ} 113 0 = ap (λ l. getD l 0 0) e in omega arith
+no-total xs k p (quiet n) i (t ∷ ts) e = let z : _≡_ {A = ℕ} 113 116 = ap (λ l. getD l 0 0) e in omega arith
+no-total xs k p (signal n mask) i [] e = let z : _≡_ {A = ℕ} 115 0 = ap (λ l. getD l 0 0) e in omega arith
+no-total xs k p (signal n mask) i (t ∷ ts) e = let z : _≡_ {A = ℕ} 115 116 = ap (λ l. getD l 0 0) e in omega arith
 
 same-total : (t u : NodeTotal) → t .node ≡ u .node → t .points ≡ u .points → t .signals ≡ u .signals → t ≡ u
 same-total t u a b c = same (t .node) (t .points) (t .signals) (u .node) (u .points) (u .signals) a b c
@@ -205,11 +208,11 @@ same-total t u a b c = same (t .node) (t .points) (t .signals) (u .node) (u .poi
         → _≡_ {A = NodeTotal} (record { node = k; points = n; signals = m }) (record { node = k′; points = n′; signals = m′ })
     same k n m k′ n′ m′ a b c = rw (a, b, c)
 
-same-answer : (a b : NodeAnswer) → a .node ≡ b .node → a .answer ≡ b .answer → a ≡ b
-same-answer a b = same (a .node) (b .node) (a .answer) (b .answer)
+same-answer : (a b : NodeAnswer) → a .node ≡ b .node → a .answer ≡ b .answer → a .period ≡ b .period → a ≡ b
+same-answer a b = same (a .node) (b .node) (a .answer) (b .answer) (a .period) (b .period)
   where
-    same : (k k′ : ℕ) (x y : Answer) → k ≡ k′ → x ≡ y → nodeAnswer k x ≡ nodeAnswer k′ y
-    same k k′ x y e f = rw (e, f)
+    same : (k k′ : ℕ) (x y : Answer) (p p′ : ℕ) → k ≡ k′ → x ≡ y → p ≡ p′ → nodeAnswer k x p ≡ nodeAnswer k′ y p′
+    same k k′ x y p p′ e f g = rw (e, f, g)
 
 totals-once : (ts us : List NodeTotal) → totalLines ts ≡ totalLines us → ts ≡ us
 unfolding totalLines totalLine
@@ -222,30 +225,32 @@ totals-once (t ∷ ts) (u ∷ us) e =
     let rest = totals-once ts us (o .3) in
     cc (one, rest)
 
+-- the line of an answer with its node and period
+abbrev pub lineAt : NodeAnswer → List ℕ
+lineAt a = lineOf (a .node) (a .answer) (a .period)
+
 answers-once : (os bs : List NodeAnswer) (ts us : List NodeTotal) → EachSaid os → EachSaid bs
     → answerLines os ++ totalLines ts ≡ answerLines bs ++ totalLines us → (os ≡ bs) × (ts ≡ us)
 unfolding answerLines EachSaid
 answers-once [] [] ts us i j e = (refl, totals-once ts us e)
 answers-once [] (b ∷ bs) ts us i j e =
-    absurd (no-total _ (b .node) (b .answer) (j .0) ts (sym (append-assoc (lineOf (b .node) (b .answer)) (answerLines bs) (totalLines us)) ∙ sym e))
+    absurd (no-total _ (b .node) (b .period) (b .answer) (j .0) ts (sym (append-assoc (lineAt b) (answerLines bs) (totalLines us)) ∙ sym e))
 answers-once (a ∷ os) [] ts us i j e =
-    absurd (no-total _ (a .node) (a .answer) (i .0) us (sym (append-assoc (lineOf (a .node) (a .answer)) (answerLines os) (totalLines ts)) ∙ e))
+    absurd (no-total _ (a .node) (a .period) (a .answer) (i .0) us (sym (append-assoc (lineAt a) (answerLines os) (totalLines ts)) ∙ e))
 answers-once (a ∷ os) (b ∷ bs) ts us i j e =
-    let x = lineOf (a .node) (a .answer) in
-    let y = lineOf (b .node) (b .answer) in
-    let o = one-once (a .node) (b .node) (a .answer) (b .answer) (i .0) (j .0)
-    (sym (append-assoc x (answerLines os) (totalLines ts)) ∙ e ∙ append-assoc y (answerLines bs) (totalLines us)) in
-    let r = answers-once os bs ts us (i .1) (j .1) (o .2) in
-    let one = same-answer a b (o .0) (o .1) in
+    let o = one-once (a .node) (a .period) (b .node) (b .period) (a .answer) (b .answer) (i .0) (j .0)
+    (sym (append-assoc (lineAt a) (answerLines os) (totalLines ts)) ∙ e ∙ append-assoc (lineAt b) (answerLines bs) (totalLines us)) in
+    let r = answers-once os bs ts us (i .1) (j .1) (o .3) in
+    let one = same-answer a b (o .0) (o .1) (o .2) in
     let rest = r .0 in
     (cc (one, rest), r .1)
 
 -- what a chart says to the points of a bench, where it refuses none
-last-said : (node : ℕ) (answers : List Answer) → EachAnswer Said answers → EachSaid (lastAnswer node answers)
+last-said : (node period : ℕ) (answers : List Answer) → EachAnswer Said answers → EachSaid (lastAnswer node answers period)
 unfolding EachAnswer EachSaid lastAnswer
-last-said node [] i = tt
-last-said node (a ∷ []) i = (i .0, tt)
-last-said node (a ∷ b ∷ rest) i = last-said node (b ∷ rest) (i .1)
+last-said node period [] i = tt
+last-said node period (a ∷ []) i = (i .0, tt)
+last-said node period (a ∷ b ∷ rest) i = last-said node period (b ∷ rest) (i .1)
 
 said-append : (xs ys : List NodeAnswer) → EachSaid xs → EachSaid ys → EachSaid (xs ++ ys)
 unfolding EachSaid
@@ -258,7 +263,7 @@ unfolding EachSaid benchAnswers
 bench-said chart f before [] = tt
 bench-said chart f before (p ∷ ps) =
     let xs = readingsOf (p .node) (before ++ (p ∷ [])) in
-    said-append (lastAnswer (p .node) (chart xs)) (benchAnswers chart (before ++ (p ∷ [])) ps) (last-said (p .node) (chart xs) (f xs))
+    said-append (pointAnswer chart (p .node) xs) (benchAnswers chart (before ++ (p ∷ [])) ps) (last-said (p .node) (length xs) (chart xs) (f xs))
     (bench-said chart f (before ++ (p ∷ [])) ps)
 
 pub plain-said : (rs : List Rule) (centre : ℤ) (sigma : ℕ) (ps : List NodeReading) → EachSaid (benchAnswers (plainChart rs centre sigma) [] ps)
@@ -269,20 +274,20 @@ unfolding answerLines EachSaid quietLine signalLine refusedLine totalLines total
 lines-not-refused [] [] n p i e = let z : _≡_ {A = ℕ} 0 114 = ap (λ l. getD l 0 0) e in omega arith
 lines-not-refused [] (t ∷ ts) n p i e = let z : _≡_ {A = ℕ} 116 114 = ap (λ l. getD l 0 0) e in omega arith
 lines-not-refused (a ∷ os) ts n p i e =
-    go _ (a .node) (a .answer) (i .0) (sym (append-assoc (lineOf (a .node) (a .answer)) (answerLines os) (totalLines ts)) ∙ e)
+    go _ (a .node) (a .period) (a .answer) (i .0) (sym (append-assoc (lineAt a) (answerLines os) (totalLines ts)) ∙ e)
   where
-    go : (xs : List ℕ) (k : ℕ) (b : Answer) → Said b → lineOf k b ++ xs ≡ refusedLine n p → ⊥
-    go xs k (refused m) i e = i
-    go xs k (quiet m) i e = let z : _≡_ {A = ℕ} 113 114 = ap (λ l. getD l 0 0) e in omega arith
-    go xs k (signal m mask) i e = let z : _≡_ {A = ℕ} 115 114 = ap (λ l. getD l 0 0) e in omega arith
+    go : (xs : List ℕ) (k period : ℕ) (b : Answer) → Said b → lineOf k b period ++ xs ≡ refusedLine n p → ⊥
+    go xs k period (refused m) i e = i
+    go xs k period (quiet m) i e = let z : _≡_ {A = ℕ} 113 114 = ap (λ l. getD l 0 0) e in omega arith
+    go xs k period (signal m mask) i e = let z : _≡_ {A = ℕ} 115 114 = ap (λ l. getD l 0 0) e in omega arith
 
 pub bench-not-refused : (rs : List Rule) (centre : ℤ) (sigma : ℕ) (ps : List NodeReading) (n p : ℕ)
     → benchBytes (plainChart rs centre sigma) ps ≡ refusedLine n p → ⊥
 unfolding benchBytes
 bench-not-refused rs centre sigma ps n p e = lines-not-refused _ _ n p (plain-said rs centre sigma ps) e
 
--- Whoever reads the monitor program's output as the lines of any answers and any totals, each with a node, reads those of each node's plain chart,
--- for the points whose lines the text has.
+-- Whoever reads the monitor program's output as the lines of any answers, each with a node and a period, and any totals reads those of each node's
+-- plain chart, for the points whose lines the text has.
 pub monitor-read-off : (s : List ℕ) (os : List NodeAnswer) (ts : List NodeTotal) → EachSaid os
     → printedBytes (monitorPrinted s) ≡ answerLines os ++ totalLines ts
     → (centre : ℤ) × (sigma : ℕ) × (rs : List Rule) × (ps : List NodeReading) × MonitorTextIs s centre sigma rs ps

@@ -24,6 +24,7 @@ nodeTaken rs n z =
     record {
       count = n .monitor .count + 1;
       mask = t .mask;
+      period = n .points + 1;
       next = record { monitor = t .next; points = n .points + 1; signals = n .signals + cond (eqb (t .mask) 0) 0 1 };
     }
 

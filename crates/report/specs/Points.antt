@@ -34,10 +34,11 @@ signalsIn (a ∷ rest) = oneSignal a + signalsIn rest
 
 -- ---- what is said of each point, and of each node
 
--- an answer, and the node that it is for
+-- an answer, the node that it is for, and the period: which of that node's points it answers, from 1
 pub record NodeAnswer : Type 0 where
   pub node : ℕ
   pub answer : Answer
+  pub period : ℕ
 
 -- a node's points and signals
 pub record NodeTotal : Type 0 where
@@ -45,21 +46,25 @@ pub record NodeTotal : Type 0 where
   pub points : ℕ
   pub signals : ℕ
 
-abbrev pub nodeAnswer : ℕ → Answer → NodeAnswer
-nodeAnswer node a = record { node = node; answer = a }
+abbrev pub nodeAnswer : ℕ → Answer → ℕ → NodeAnswer
+nodeAnswer node a period = record { node = node; answer = a; period = period }
 
 -- the last of a node's answers, where there is one
-unfoldable pub lastAnswer : ℕ → List Answer → List NodeAnswer
-lastAnswer node [] = []
-lastAnswer node (a ∷ []) = nodeAnswer node a ∷ []
-lastAnswer node (a ∷ b ∷ rest) = lastAnswer node (b ∷ rest)
+unfoldable pub lastAnswer : ℕ → List Answer → ℕ → List NodeAnswer
+lastAnswer node [] period = []
+lastAnswer node (a ∷ []) period = nodeAnswer node a period ∷ []
+lastAnswer node (a ∷ b ∷ rest) period = lastAnswer node (b ∷ rest) period
 
--- Each point behind the points `before`. A chart answers a list of readings one by one; the point gets the last answer of its node's chart,
--- to that node's readings up to this one.
+-- What is said of a point whose node has these readings up to it, its own the last: a chart answers a list of readings one by one, and the point gets
+-- the last answer; its period is the number of these readings.
+abbrev pub pointAnswer : (List ℤ → List Answer) → ℕ → List ℤ → List NodeAnswer
+pointAnswer chart node xs = lastAnswer node (chart xs) (length xs)
+
+-- each point behind the points `before`, by its node's readings from the first on
 unfoldable pub benchAnswers : (List ℤ → List Answer) → List NodeReading → List NodeReading → List NodeAnswer
 benchAnswers chart before [] = []
 benchAnswers chart before (p ∷ ps) =
-    lastAnswer (p .node) (chart (readingsOf (p .node) (before ++ (p ∷ [])))) ++ benchAnswers chart (before ++ (p ∷ [])) ps
+    pointAnswer chart (p .node) (readingsOf (p .node) (before ++ (p ∷ []))) ++ benchAnswers chart (before ++ (p ∷ [])) ps
 
 -- a node's total: none where it has no answer
 abbrev pub nodeTotal : ℕ → List Answer → List NodeTotal
@@ -74,14 +79,14 @@ benchTotals chart ps (suc n) = benchTotals chart ps n ++ nodeTotal n (chart (rea
 -- ---- and the lines of it
 
 -- the line of an answer. No point is refused (`no-point-refused` of MonitorReportLaws), so that what this case gets is never seen
-abbrev pub lineOf : ℕ → Answer → List ℕ
-lineOf node (refused n) = []
-lineOf node (quiet n) = quietLine node n
-lineOf node (signal n mask) = signalLine node n mask
+abbrev pub lineOf : ℕ → Answer → ℕ → List ℕ
+lineOf node (refused n) period = []
+lineOf node (quiet n) period = quietLine node n period
+lineOf node (signal n mask) period = signalLine node n mask period
 
 unfoldable pub answerLines : List NodeAnswer → List ℕ
 answerLines [] = []
-answerLines (a ∷ rest) = lineOf (a .node) (a .answer) ++ answerLines rest
+answerLines (a ∷ rest) = lineOf (a .node) (a .answer) (a .period) ++ answerLines rest
 
 unfoldable pub totalLines : List NodeTotal → List ℕ
 totalLines [] = []

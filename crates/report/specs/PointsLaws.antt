@@ -32,7 +32,7 @@ use Rattle.parse.specs.ReadingsLaws.{one-point, no-points, readings-append, rea
 use Rattle.print.specs.Monitor.{quietLine, signalLine, pointLine, pointRoom}
 use Rattle.report.specs.declared.nodes.Node.{Node}
 use Rattle.report.specs.declared.nodes.NodePoint.{NodePoint}
-use Rattle.report.specs.Points.{zonesOf, NodeAnswer, nodeAnswer, lastAnswer, benchAnswers, signalsIn, benchTotals, lineOf, answerLines, totalLines, benchBytes}
+use Rattle.report.specs.Points.{zonesOf, NodeAnswer, nodeAnswer, lastAnswer, pointAnswer, benchAnswers, signalsIn, benchTotals, lineOf, answerLines, totalLines, benchBytes}
 use Rattle.report.specs.Nodes.{freshNode, nodeTaken, takenChart, takenAfter, nodeAfter, totalOf, totalsOf}
 use Rattle.report.specs.NodesLaws.{answerAfter, answers-more, node-more, node-valid, node-small, node-total}
 use Rattle.report.specs.ZonesLaws.{zones-append, zones-exist, zones-length}
@@ -40,18 +40,19 @@ use Rattle.report.specs.BenchWritten.{NodesAre, BenchWritten}
 
 -- ---- one point more
 
-pub last-more : (node : ℕ) (answers : List Answer) (a : Answer) → lastAnswer node (answers ++ (a ∷ [])) ≡ nodeAnswer node a ∷ []
+pub last-more : (node : ℕ) (answers : List Answer) (a : Answer) (period : ℕ)
+    → lastAnswer node (answers ++ (a ∷ [])) period ≡ nodeAnswer node a period ∷ []
 unfolding lastAnswer
-last-more node [] a = refl
-last-more node (x ∷ []) a = refl
-last-more node (x ∷ y ∷ rest) a = last-more node (y ∷ rest) a
+last-more node [] a period = refl
+last-more node (x ∷ []) a period = refl
+last-more node (x ∷ y ∷ rest) a period = last-more node (y ∷ rest) a period
 
 pub bench-more : (chart : List ℤ → List Answer) (before ps : List NodeReading) (p : NodeReading)
-    → benchAnswers chart before (ps ++ (p ∷ [])) ≡ benchAnswers chart before ps ++ lastAnswer (p .node) (chart (readingsOf (p .node) (before ++ (ps ++ (p ∷ [])))))
+    → benchAnswers chart before (ps ++ (p ∷ [])) ≡ benchAnswers chart before ps ++ pointAnswer chart (p .node) (readingsOf (p .node) (before ++ (ps ++ (p ∷ []))))
 unfolding benchAnswers
 bench-more chart before [] p = append-nil _
 bench-more chart before (q ∷ ps) p =
-    let one = lastAnswer (q .node) (chart (readingsOf (q .node) (before ++ (q ∷ [])))) in
+    let one = pointAnswer chart (q .node) (readingsOf (q .node) (before ++ (q ∷ []))) in
     let r = bench-more chart (before ++ (q ∷ [])) ps p in
     let e : (before ++ (q ∷ [])) ++ (ps ++ (p ∷ [])) ≡ before ++ (q ∷ (ps ++ (p ∷ []))) = append-assoc before (q ∷ []) (ps ++ (p ∷ [])) in
     ap (λ (l : List NodeAnswer). one ++ l) (rw e at r) ∙ sym (append-assoc one _ _)
@@ -60,15 +61,17 @@ pub lines-append : (xs ys : List NodeAnswer) → answerLines (xs ++ ys) ≡ answ
 unfolding answerLines
 lines-append [] ys = refl
 lines-append (x ∷ xs) ys =
-    let one = lineOf (x .node) (x .answer) in
+    let one = lineOf (x .node) (x .answer) (x .period) in
     ap (λ (t : List ℕ). one ++ t) (lines-append xs ys) ∙ sym (append-assoc one (answerLines xs) (answerLines ys))
 
 -- the line of a mask and a count is that of the answer which they say
-mask-line : (node mask count : ℕ) → pointLine (record { node = node; count = count; mask = mask }) ≡ lineOf node (maskAnswer mask count)
+mask-line : (node mask count period : ℕ)
+    → pointLine (record { node = node; count = count; mask = mask; period = period }) ≡ lineOf node (maskAnswer mask count) period
 unfolding pointLine
-mask-line node mask count = go (eqb mask 0)
+mask-line node mask count period = go (eqb mask 0)
   where
-    go : (b : Bool) → cond b (quietLine node count) (signalLine node count mask) ≡ lineOf node (cond b (quiet count) (signal count mask))
+    go : (b : Bool)
+        → cond b (quietLine node count period) (signalLine node count mask period) ≡ lineOf node (cond b (quiet count) (signal count mask)) period
     go true = refl
     go false = refl
 
@@ -79,10 +82,11 @@ module _ (rs : List Rule) (centre : ℤ) (sigma : ℕ) (done : List NodeReading)
   unfolding zonesOf
   zones-own = rw (readings-append node done (nodeReading node x ∷ []), reading-own node x) (zones-append centre sigma (readingsOf node done) (x ∷ []))
 
-  -- the line that a point adds
-  line-more : answerLines (benchAnswers (takenChart rs centre sigma) [] (done ++ (nodeReading node x ∷ [])))
+  -- the line that a point adds: its period is one more than its node's points before it
+  line-more : (let zs = zonesOf centre sigma (readingsOf node done) in
+      answerLines (benchAnswers (takenChart rs centre sigma) [] (done ++ (nodeReading node x ∷ [])))
       ≡ answerLines (benchAnswers (takenChart rs centre sigma) [] done)
-      ++ lineOf node (answerAfter rs freshMonitor (zonesOf centre sigma (readingsOf node done)) (zoneAt (x -ℤ centre) sigma))
+      ++ lineOf node (answerAfter rs freshMonitor zs (zoneAt (x -ℤ centre) sigma)) (length zs + 1))
   unfolding answerLines
   line-more =
       let zs = zonesOf centre sigma (readingsOf node done) in
@@ -90,11 +94,13 @@ module _ (rs : List Rule) (centre : ℤ) (sigma : ℕ) (done : List NodeReading)
       let a = answerAfter rs freshMonitor zs z in
       let chart = takenChart rs centre sigma in
       let before = benchAnswers chart [] done in
-      let last : lastAnswer node (chart (readingsOf node (done ++ (nodeReading node x ∷ [])))) ≡ nodeAnswer node a ∷ [] =
-      rw (zones-own, answers-more rs freshMonitor zs z) (last-more node (takenAnswers rs freshMonitor zs) a) in
+      let xs = readingsOf node (done ++ (nodeReading node x ∷ [])) in
+      let period : length xs ≡ length zs + 1 = sym (zones-length centre sigma xs) ∙ ap length zones-own ∙ length-append zs (z ∷ []) in
+      let last : pointAnswer chart node xs ≡ nodeAnswer node a (length zs + 1) ∷ [] =
+      rw (zones-own, answers-more rs freshMonitor zs z, period) (last-more node (takenAnswers rs freshMonitor zs) a (length zs + 1)) in
       ap answerLines (bench-more chart [] done (nodeReading node x) ∙ ap (λ (l : List NodeAnswer). before ++ l) last)
-      ∙ lines-append before (nodeAnswer node a ∷ [])
-      ∙ ap (λ (l : List ℕ). answerLines before ++ l) (append-nil (lineOf node a))
+      ∙ lines-append before (nodeAnswer node a (length zs + 1) ∷ [])
+      ∙ ap (λ (l : List ℕ). answerLines before ++ l) (append-nil (lineOf node a (length zs + 1)))
 
   -- the nodes behind the point: its own is moved on, the others stay
   nodes-more : (nodes : List Node) → NodesAre rs centre sigma done nodes → node < length nodes
@@ -179,7 +185,7 @@ module _ {s : List ℕ} {at : ℕ} {rs : List Rule} {centre : ℤ} {sigma : ℕ}
 
     pub written-more : (node : ℕ) (x : ℤ) (next : ℕ) → lineAt s i ≡ Point node x next
         → (z : ℕ) → z ≡ zoneAt (x -ℤ centre) sigma → (p : NodePoint) → p ≡ nodeTaken rs (getD nodes node freshNode) z
-        → {after′ : List ℕ} (r : ℕ) → Wrote after end after′ r (pointLine (record { node = node; count = p .count; mask = p .mask }))
+        → {after′ : List ℕ} (r : ℕ) → Wrote after end after′ r (pointLine (record { node = node; count = p .count; mask = p .mask; period = p .period }))
         → r ≤ end + pointRoom
         → BenchWritten s at rs centre sigma before after′ (set nodes node (p .next)) next r
     unfolding OnBench nodeTaken nodeAfter
@@ -192,8 +198,8 @@ module _ {s : List ℕ} {at : ℕ} {rs : List Rule} {centre : ℤ} {sigma : ℕ}
         let count : length (u .done ++ (one ∷ [])) ≡ length (u .done) + 1 = length-append (u .done) (one ∷ []) in
         let own : p ≡ nodeTaken rs (nodeAfter rs zs) (zoneAt (x -ℤ centre) sigma) = ep ∙ taken-same rs (u .nodes-are node below) ez in
         let slot : node < length nodes = omega (arith, u .slots) in
-        let line : pointLine (record { node = node; count = p .count; mask = p .mask })
-        ≡ lineOf node (answerAfter rs freshMonitor zs (zoneAt (x -ℤ centre) sigma)) = rw own (mask-line node _ _) in
+        let line : pointLine (record { node = node; count = p .count; mask = p .mask; period = p .period })
+        ≡ lineOf node (answerAfter rs freshMonitor zs (zoneAt (x -ℤ centre) sigma)) (length zs + 1) = rw own (mask-line node _ _ _) in
         record {
           fuel = o .0;
           enough = o .1;

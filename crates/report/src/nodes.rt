@@ -26,10 +26,11 @@ pub(crate) struct Node {
     pub(crate) signals: u32,
 }
 
-// What a point does to its node: its count, the mask of all rules that hold, 0 for quiet, and the node behind it.
+// What a point does to its node: its count, the mask of all rules that hold, 0 for quiet, its period, and the node behind it.
 pub(crate) struct NodePoint {
     pub(crate) count: u32,
     pub(crate) mask: u32,
+    pub(crate) period: u32,
     pub(crate) next: Node,
 }
 
@@ -68,6 +69,7 @@ pub(crate) fn chart_point(node: Node, list: RuleList, zone: u32) -> NodePoint
     NodePoint {
         count,
         mask,
+        period: points,
         next: Node {
             monitor: next,
             points,

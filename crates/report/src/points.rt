@@ -60,7 +60,14 @@ pub(crate) fn put_points(
         let point = chart_point(nodes[node as usize], list, zone);
         let count = point.count;
         let mask = point.mask;
-        end = put_point(out, end, PointLine { node, count, mask });
+        let period = point.period;
+        let line = PointLine {
+            node,
+            count,
+            mask,
+            period,
+        };
+        end = put_point(out, end, line);
         let next_node = point.next;
         nodes[node as usize] = next_node;
         i = next;
