@@ -22,6 +22,7 @@ use Rattle.report.specs.Points.{zonesOf, benchAnswers, signalsIn, nodeTotal, be
 use Rattle.report.specs.ZonesLaws.{zones-append, zones-length}
 use Rattle.report.specs.MonitorReport.{monitorPrinted}
 use Rattle.claims.specs.Exact.{freeAnswers}
+use Rattle.program_claims.specs.LinesOnce.{group1, group2}
 use Rattle.program_claims.specs.Texts.{MonitorTextIs}
 use Rattle.program_claims.specs.MonitorBytes.{monitor-text-once}
 use Rattle.program_claims.specs.Programs.{plainChart, MonitorPrints, MonitorProgram, refuses, prints}
@@ -59,12 +60,6 @@ one-by-one rs centre sigma =
 
 -- ---- document 01's lines, each quiet and signal line with its period, and the node after each first word
 
-group1 : (w a n xs : List ℕ) → (w ++ (a ++ n)) ++ xs ≡ w ++ ((a ++ []) ++ (n ++ xs))
-group1 w a n xs = simp (append-assoc, append-nil)
-
-group2 : (w a b n xs : List ℕ) → (w ++ (a ++ (b ++ n))) ++ xs ≡ w ++ ((a ++ (b ++ [])) ++ (n ++ xs))
-group2 w a b n xs = simp (append-assoc, append-nil)
-
 module _ (k : ℕ) where
   -- the lines of answers from the period p on, before lines that get no period
   alone-more : (answers : List Answer) (p : ℕ) (rest : List ℕ) (ls : List (List ℕ)) → ((q : ℕ) → withPeriods q (linesIn rest) ≡ ls) → EachAnswer Said answers
@@ -74,14 +69,14 @@ module _ (k : ℕ) where
   alone-more (refused n ∷ answers) p rest ls f i = absurd (i .0)
   alone-more (quiet n ∷ answers) p rest ls f i =
       let more = aloneLines answers ++ rest in
-      let line = quietWord ++ (field n ++ newline) in
+      let line = quietWord ++ field n ++ newline in
       ap (λ l. map (withNode k) (withPeriods p (linesIn l))) (append-assoc line (aloneLines answers) rest ∙ group1 quietWord (field n) newline more)
       ∙ ap (λ l. map (withNode k) (withPeriods p l)) (word-line quietWord (n ∷ []) more refl)
       ∙ ap (map (withNode k)) (point-numbered quietWord (plain .0) n [] (linesIn more) (words .0) p)
       ∙ rw (with-node quietWord (plain .0) k n (p ∷ []), alone-more answers (p + 1) rest ls f (i .1))
   alone-more (signal n mask ∷ answers) p rest ls f i =
       let more = aloneLines answers ++ rest in
-      let line = signalWord ++ (field n ++ (field mask ++ newline)) in
+      let line = signalWord ++ field n ++ field mask ++ newline in
       ap (λ l. map (withNode k) (withPeriods p (linesIn l)))
       (append-assoc line (aloneLines answers) rest ∙ group2 signalWord (field n) (field mask) newline more)
       ∙ ap (λ l. map (withNode k) (withPeriods p l)) (word-line signalWord (n ∷ mask ∷ []) more refl)
@@ -96,7 +91,7 @@ module _ (k : ℕ) where
   alone-lines answers i =
       let n = length answers in
       let m = signalsIn answers in
-      let line = totalWord ++ (field n ++ (field m ++ newline)) in
+      let line = totalWord ++ field n ++ field m ++ newline in
       let shape : line ≡ totalWord ++ ((field n ++ (field m ++ [])) ++ (10 ∷ [])) = sym (append-nil line) ∙ group2 totalWord (field n) (field m) newline [] in
       let total : linesIn line ≡ (totalWord ++ fields (n ∷ m ∷ [])) ∷ [] = ap linesIn shape ∙ word-line totalWord (n ∷ m ∷ []) [] refl in
       alone-more answers 1 line _ (λ q. ap (withPeriods q) total ∙ other-kept totalWord (plain .2) n (m ∷ []) [] (words .2) q) i

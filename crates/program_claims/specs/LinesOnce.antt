@@ -22,7 +22,10 @@ line-once word ns ms xs ys e = fields-once ns ms xs ys (behind-once word e)
 
 -- ---- the shape of each line
 
-group2 : (w a b n xs : List ℕ) → w ++ a ++ b ++ n ++ xs ≡ w ++ ((a ++ (b ++ [])) ++ (n ++ xs))
+pub group1 : (w a n xs : List ℕ) → w ++ a ++ n ++ xs ≡ w ++ ((a ++ []) ++ (n ++ xs))
+group1 w a n xs = simp (append-assoc, append-nil)
+
+pub group2 : (w a b n xs : List ℕ) → w ++ a ++ b ++ n ++ xs ≡ w ++ ((a ++ (b ++ [])) ++ (n ++ xs))
 group2 w a b n xs = simp (append-assoc, append-nil)
 
 group3 : (w a b c n xs : List ℕ) → w ++ a ++ b ++ c ++ n ++ xs ≡ w ++ ((a ++ (b ++ (c ++ []))) ++ (n ++ xs))
@@ -33,7 +36,7 @@ group4 w a b c d n xs = simp (append-assoc, append-nil)
 
 standings-shape : (n : ℕ) (xs : List ℕ) → standingsLine n ++ xs ≡ standingsWord ++ (fields (n ∷ []) ++ (10 ∷ xs))
 unfolding standingsLine field fields
-standings-shape n xs = simp append-assoc
+standings-shape n xs = group1 standingsWord (field n) lf xs
 
 arl-shape : (a b c : ℕ) (xs : List ℕ) → arlLine a b c ++ xs ≡ arlWord ++ (fields (a ∷ b ∷ c ∷ []) ++ (10 ∷ xs))
 unfolding arlLine field fields

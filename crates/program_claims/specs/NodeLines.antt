@@ -94,8 +94,8 @@ withPeriods n (l ∷ ls) = cond (ofPoint (beforeComma l)) ((l ++ field n) ∷ wi
 -- quiet,n and signal,n,mask
 abbrev aloneLine : Answer → List ℕ
 aloneLine (refused n) = []
-aloneLine (quiet n) = quietWord ++ (field n ++ newline)
-aloneLine (signal n mask) = signalWord ++ (field n ++ (field mask ++ newline))
+aloneLine (quiet n) = quietWord ++ field n ++ newline
+aloneLine (signal n mask) = signalWord ++ field n ++ field mask ++ newline
 
 unfoldable pub aloneLines : List Answer → List ℕ
 aloneLines [] = []
@@ -103,4 +103,4 @@ aloneLines (a ∷ rest) = aloneLine a ++ aloneLines rest
 
 -- a line for each answer, then total,points,signals
 unfoldable pub aloneBytes : List Answer → List ℕ
-aloneBytes answers = aloneLines answers ++ (totalWord ++ (field (length answers) ++ (field (signalsIn answers) ++ newline)))
+aloneBytes answers = aloneLines answers ++ (totalWord ++ field (length answers) ++ field (signalsIn answers) ++ newline)
