@@ -35,23 +35,32 @@ pub fn lines_of(printed: &[u8], node: u32) -> Vec<u8> {
     kept(&lines(printed).0, |line| fields(line).get(1) == Some(&node.as_bytes()))
 }
 
-/// Whether a line is that of a point with this period: the period is its last field.
-fn has_period(line: &[u8], period: u32) -> bool {
+/// The count and the period of a point's line, and whether it signals. The period is the last field.
+fn point(line: &[u8]) -> Option<(u32, u32, bool)> {
     match fields(line)[..] {
-        [b"quiet", _, _, last] | [b"signal", _, _, _, last] => number(last) == Some(period),
-        _ => false,
+        [b"quiet", _, n, period] => Some((number(n)?, number(period)?, false)),
+        [b"signal", _, n, _, period] => Some((number(n)?, number(period)?, true)),
+        _ => None,
     }
 }
 
-/// How many lines of points a node has, if their periods are 1, 2, 3 and so on up to the points of its total, its last line; and how many of
-/// the periods are not n, since the node was cleared before.
+/// How many lines of points a node has, if their periods are 1, 2, 3 and so on up to the points of its total, its last line, and each is what
+/// the run lengths before it and its own count add up to; and how many of them come behind a clearing.
 pub fn periods(own: &[u8]) -> Option<(u64, u64)> {
     let (own, _) = lines(own);
     let (total, points) = own.split_last()?;
     let [b"total", _, all, _] = fields(total)[..] else { return None };
-    if number(all)? as usize != points.len() || !points.iter().zip(1..).all(|(line, period)| has_period(line, period)) {
+    if number(all)? as usize != points.len() {
         return None;
     }
-    let cleared = points.iter().zip(1..).filter(|(line, period)| number(fields(line)[2]) != Some(*period)).count();
-    Some((points.len() as u64, cleared as u64))
+    let (mut runs, mut cleared) = (0, 0);
+    for (line, place) in points.iter().zip(1..) {
+        let (n, period, signal) = point(line)?;
+        if period != place || period != runs + n {
+            return None;
+        }
+        cleared += u64::from(runs > 0);
+        runs += if signal { n } else { 0 };
+    }
+    Some((points.len() as u64, cleared))
 }

@@ -19,7 +19,7 @@ use Rattle.print.specs.Monitor.{quietWord, signalWord, totalWord, totalLine}
 use Rattle.report.specs.Points.{NodeAnswer, nodeAnswer, NodeTotal, lastAnswer, pointAnswer, benchAnswers, nodeTotal, benchTotals, lineOf, answerLines, totalLines, benchBytes}
 use Rattle.report.specs.PointsLaws.{last-more}
 use Rattle.program_claims.specs.LinesOnce.{quiet-shape, signal-shape, total-shape}
-use Rattle.program_claims.specs.PrintedOnce.{EachSaid, lineAt}
+use Rattle.program_claims.specs.PrintedOnce.{EachSaid, lineFor}
 use Rattle.program_claims.specs.NodeLines.{linesIn, sameBytes, ofNode, linesOf, ofPoint}
 use Rattle.program_claims.specs.NodeLinesLaws.{word-line, NoComma, own-line, other-line}
 
@@ -85,7 +85,7 @@ pub answers-of : (k : ℕ) (os : List NodeAnswer) (rest : List ℕ) → EachSaid
 unfolding answerLines EachSaid answersOf bodies
 answers-of k [] rest i = refl
 answers-of k (a ∷ os) rest i =
-    ap (linesOf k) (append-assoc (lineAt a) (answerLines os) rest)
+    ap (linesOf k) (append-assoc (lineFor a) (answerLines os) rest)
     ∙ answer-of k (a .node) (a .answer) (a .period) (i .0) (answerLines os ++ rest)
     ∙ go (eqb (a .node) k) (answers-of k os rest (i .1))
   where
@@ -175,7 +175,7 @@ own-reading k p q = rw (eq-eqb (p .node) k q)
 
 module _ (chart : List ℤ → List Answer) (one : OneByOne chart) (k : ℕ) where
   -- what the chart answers to the readings of the node among these points, in order
-  abbrev pub answersTo : List NodeReading → List NodeAnswer
+  abbrev answersTo : List NodeReading → List NodeAnswer
   answersTo ps = inOrder k 1 (chart (readingsOf k ps))
 
   own-answers : (before ps : List NodeReading) → answersTo before ++ answersOf k (benchAnswers chart before ps) ≡ answersTo (before ++ ps)
@@ -210,7 +210,7 @@ module _ (chart : List ℤ → List Answer) (one : OneByOne chart) (k : ℕ) whe
           readings-append k before (p ∷ []) ∙ ap (λ (l : List ℤ). readingsOf k before ++ l) none ∙ append-nil (readingsOf k before) in
           rw (other-last k (p .node) (chart (readingsOf (p .node) (before ++ (p ∷ [])))) _ (benchAnswers chart (before ++ (p ∷ [])) ps) d) (rw same at r)
 
-  bench-of : (ps : List NodeReading) → answersOf k (benchAnswers chart [] ps) ≡ answersTo ps
+  pub bench-of : (ps : List NodeReading) → answersOf k (benchAnswers chart [] ps) ≡ answersTo ps
   unfolding readingsOf inOrder
   bench-of ps = rw (one .none) at (own-answers [] ps)
 

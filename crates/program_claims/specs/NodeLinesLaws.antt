@@ -109,7 +109,7 @@ module _ (word : List ℕ) (plain : NoComma word) (k : ℕ) (node n : ℕ) (ns :
 fields-more : (word ns : List ℕ) (p : ℕ) → (word ++ fields ns) ++ field p ≡ word ++ fields (ns ++ (p ∷ []))
 fields-more word ns p = append-assoc word (fields ns) (field p) ∙ ap (λ l. word ++ l) (sym (fields-snoc ns p))
 
--- a line of a word and numbers is of a point or not by its word: it is kept, and gets its number; or it is neither
+-- a line of a word and numbers is a point's or not by its word: a point's is kept, and gets its number; another is left out, and gets none
 module _ (word : List ℕ) (plain : NoComma word) (n : ℕ) (ns : List ℕ) (ls : List (List ℕ)) where
   abbrev line : List ℕ
   line = word ++ fields (n ∷ ns)

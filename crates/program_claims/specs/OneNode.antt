@@ -18,7 +18,7 @@ use Rattle.report.specs.MonitorReport.{monitorPrinted}
 use Rattle.program_claims.specs.LinesOnce.{quiet-shape, signal-shape, total-shape}
 use Rattle.program_claims.specs.Texts.{MonitorTextIs}
 use Rattle.program_claims.specs.Programs.{plainChart}
-use Rattle.program_claims.specs.PrintedOnce.{EachSaid, lineAt, plain-said}
+use Rattle.program_claims.specs.PrintedOnce.{EachSaid, lineFor, plain-said}
 use Rattle.program_claims.specs.NodeLines.{linesOf, withEnds}
 use Rattle.program_claims.specs.NodeBytes.{body, bodies, answersOf, totalsOf, OneByOne, answers-of, totals-of}
 use Rattle.program_claims.specs.Isolation.{Accepted, one-by-one, accepted-prints, isolation}
@@ -109,7 +109,7 @@ ends-lines k [] ts i o t = ends-totals k ts t
 ends-lines k (a ∷ os) ts i o t =
     rw (eq-eqb (a .node) k (o .0), ends-lines k os ts (i .1) (o .1) t)
     (answer-line (a .node) (a .answer) (a .period) (i .0) (answerLines os ++ totalLines ts)
-    ∙ sym (append-assoc (lineAt a) (answerLines os) (totalLines ts)))
+    ∙ sym (append-assoc (lineFor a) (answerLines os) (totalLines ts)))
 
 only-lines : (rs : List Rule) (centre : ℤ) (sigma k : ℕ) (ps : List NodeReading) → OnlyNode k ps
     → withEnds (linesOf k (benchBytes (plainChart rs centre sigma) ps)) ≡ benchBytes (plainChart rs centre sigma) ps

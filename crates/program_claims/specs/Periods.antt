@@ -1,27 +1,30 @@
--- CLAIM: the periods of a node's quiet and signal lines are 1, 2, 3, .., in order, to the number of its points.
+-- CLAIMS: the periods of a node's quiet and signal lines are 1, 2, 3, .., in order, to the number of its points; and they are what its run lengths add up to.
 use Prim.Native.Nat.{ℕ, _+_}
 use mathlib.Core.Path.{_≡_, refl, ap, _∙_}
-use mathlib.Core.Bool.{Bool, true, false}
+use mathlib.Core.Bool.{Bool, true, false, cond}
 use mathlib.Core.List.{List, [], _∷_, _++_, map}
-use lib.Dec.{ltb}
+use lib.Dec.{eqb, ltb}
 use lib.IntN.{ℤ}
 use lib.ListN.{length}
+use native.Mathlib.Omega.{arith}
 use borrow.Author.Tests.{ltb-true, ltb-false, eq-eqb}
 use Rattle.rules.specs.declared.Rule.{Rule}
-use Rattle.monitor.specs.ReferenceChart.{Answer, refused, quiet, signal}
+use Rattle.monitor.specs.ReferenceChart.{Answer, refused, quiet, signal, Charted, charted, rowMask}
 use Rattle.monitor.specs.Calls.{Said, EachAnswer}
 use Rattle.text.specs.Decimal.{decimal}
 use Rattle.parse.specs.Readings.{NodeReading, nodeCount, OnBench, readingsOf}
 use Rattle.print.specs.Monitor.{quietWord, signalWord, totalWord}
 use Rattle.report.specs.Printed.{printedBytes}
-use Rattle.report.specs.Points.{zonesOf, signalsIn, nodeTotal}
+use Rattle.report.specs.Points.{zonesOf, NodeAnswer, nodeAnswer, NodeTotal, signalsIn, benchAnswers, nodeTotal, benchTotals, answerLines, totalLines}
 use Rattle.report.specs.MonitorReport.{monitorPrinted}
+use Rattle.claims.specs.Exact.{freeAnswers}
 use Rattle.program_claims.specs.Texts.{MonitorTextIs}
 use Rattle.program_claims.specs.Programs.{plainChart, MonitorPrints}
 use Rattle.program_claims.specs.MonitorProgram.{free-said}
+use Rattle.program_claims.specs.PrintedOnce.{EachSaid, monitor-read-off}
 use Rattle.program_claims.specs.NodeLines.{pointsIn, lastField, periodFields, countFrom}
 use Rattle.program_claims.specs.NodeLinesLaws.{point-kept, other-left, last-number}
-use Rattle.program_claims.specs.NodeBytes.{plain, words, bodies, totalsOf, inOrder}
+use Rattle.program_claims.specs.NodeBytes.{plain, words, bodies, answersOf, totalsOf, inOrder, bench-of}
 use Rattle.program_claims.specs.Isolation.{Accepted, one-by-one, below, beyond, no-readings, accepted-prints}
 
 module _ (k : ℕ) where
@@ -67,3 +70,52 @@ pub periods : {s : List ℕ} {centre : ℤ} {sigma : ℕ} {rs : List Rule} {ps :
 periods a is k =
     let t = accepted-prints a is in
     node-periods (t .0) (t .1) k
+
+-- ---- what the run lengths add up to
+
+-- the count that an answer tells
+abbrev pub countIn : Answer → ℕ
+countIn (refused n) = 0
+countIn (quiet n) = n
+countIn (signal n mask) = n
+
+-- the run lengths that have ended, added up: a signal's count is a run length
+abbrev pub runsAfter : ℕ → Answer → ℕ
+runsAfter runs (refused n) = runs
+runsAfter runs (quiet n) = runs
+runsAfter runs (signal n mask) = runs + n
+
+-- each period is the run lengths before it and its own count
+unfoldable pub AddsUp : ℕ → List NodeAnswer → Type 0
+AddsUp runs [] = Unit {0}
+AddsUp runs (a ∷ rest) = (a .period ≡ runs + countIn (a .answer)) × AddsUp (runsAfter runs (a .answer)) rest
+
+-- what the plain chart makes of a row, quiet or not
+abbrev next : Bool → List ℕ → ℕ → Charted
+next b row mask = cond b (charted (quiet (length row)) row) (charted (signal (length row) mask) [])
+
+chart-adds : (k : ℕ) (rs : List Rule) (zs row : List ℕ) (runs p : ℕ) → p ≡ runs + length row + 1 → AddsUp runs (inOrder k p (freeAnswers rs row zs))
+unfolding AddsUp inOrder freeAnswers
+chart-adds k rs [] row runs p e = tt
+chart-adds k rs (z ∷ zs) row runs p e =
+    go (eqb (rowMask rs (z ∷ row)) 0) (chart-adds k rs zs (z ∷ row) runs (p + 1) (omega arith))
+    (chart-adds k rs zs [] (runs + length (z ∷ row)) (p + 1) (omega arith))
+  where
+    go : (b : Bool) → AddsUp runs (inOrder k (p + 1) (freeAnswers rs (z ∷ row) zs))
+        → AddsUp (runs + length (z ∷ row)) (inOrder k (p + 1) (freeAnswers rs [] zs))
+        → AddsUp runs (nodeAnswer k (next b (z ∷ row) (rowMask rs (z ∷ row)) .answer) p ∷ inOrder k (p + 1) (freeAnswers rs (next b (z ∷ row) (rowMask rs (z ∷ row)) .row) zs))
+    go true q s = (omega arith, q)
+    go false q s = (omega arith, s)
+
+-- Whoever reads the printed bytes as the lines of any answers, each with a node and a period, finds for every node that they add up: the period of a
+-- signal is the sum of the run lengths up to it.
+pub periods-add-up : (s : List ℕ) (os : List NodeAnswer) (ts : List NodeTotal) → EachSaid os
+    → printedBytes (monitorPrinted s) ≡ answerLines os ++ totalLines ts → (k : ℕ) → AddsUp 0 (answersOf k os)
+periods-add-up s os ts i e k = go (monitor-read-off s os ts i e)
+  where
+    go : (centre : ℤ) × (sigma : ℕ) × (rs : List Rule) × (ps : List NodeReading) × MonitorTextIs s centre sigma rs ps
+        × (os ≡ benchAnswers (plainChart rs centre sigma) [] ps) × (ts ≡ benchTotals (plainChart rs centre sigma) ps nodeCount)
+        → AddsUp 0 (answersOf k os)
+    go (centre, sigma, rs, ps, is, same, totals) =
+        rw (same, bench-of (plainChart rs centre sigma) (one-by-one rs centre sigma) k ps)
+        (chart-adds k rs (zonesOf centre sigma (readingsOf k ps)) [] 0 1 refl)

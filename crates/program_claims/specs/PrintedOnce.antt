@@ -226,20 +226,20 @@ totals-once (t ∷ ts) (u ∷ us) e =
     cc (one, rest)
 
 -- the line of an answer with its node and period
-abbrev pub lineAt : NodeAnswer → List ℕ
-lineAt a = lineOf (a .node) (a .answer) (a .period)
+abbrev pub lineFor : NodeAnswer → List ℕ
+lineFor a = lineOf (a .node) (a .answer) (a .period)
 
 answers-once : (os bs : List NodeAnswer) (ts us : List NodeTotal) → EachSaid os → EachSaid bs
     → answerLines os ++ totalLines ts ≡ answerLines bs ++ totalLines us → (os ≡ bs) × (ts ≡ us)
 unfolding answerLines EachSaid
 answers-once [] [] ts us i j e = (refl, totals-once ts us e)
 answers-once [] (b ∷ bs) ts us i j e =
-    absurd (no-total _ (b .node) (b .period) (b .answer) (j .0) ts (sym (append-assoc (lineAt b) (answerLines bs) (totalLines us)) ∙ sym e))
+    absurd (no-total _ (b .node) (b .period) (b .answer) (j .0) ts (sym (append-assoc (lineFor b) (answerLines bs) (totalLines us)) ∙ sym e))
 answers-once (a ∷ os) [] ts us i j e =
-    absurd (no-total _ (a .node) (a .period) (a .answer) (i .0) us (sym (append-assoc (lineAt a) (answerLines os) (totalLines ts)) ∙ e))
+    absurd (no-total _ (a .node) (a .period) (a .answer) (i .0) us (sym (append-assoc (lineFor a) (answerLines os) (totalLines ts)) ∙ e))
 answers-once (a ∷ os) (b ∷ bs) ts us i j e =
     let o = one-once (a .node) (a .period) (b .node) (b .period) (a .answer) (b .answer) (i .0) (j .0)
-    (sym (append-assoc (lineAt a) (answerLines os) (totalLines ts)) ∙ e ∙ append-assoc (lineAt b) (answerLines bs) (totalLines us)) in
+    (sym (append-assoc (lineFor a) (answerLines os) (totalLines ts)) ∙ e ∙ append-assoc (lineFor b) (answerLines bs) (totalLines us)) in
     let r = answers-once os bs ts us (i .1) (j .1) (o .3) in
     let one = same-answer a b (o .0) (o .1) (o .2) in
     let rest = r .0 in
@@ -274,7 +274,7 @@ unfolding answerLines EachSaid quietLine signalLine refusedLine totalLines total
 lines-not-refused [] [] n p i e = let z : _≡_ {A = ℕ} 0 114 = ap (λ l. getD l 0 0) e in omega arith
 lines-not-refused [] (t ∷ ts) n p i e = let z : _≡_ {A = ℕ} 116 114 = ap (λ l. getD l 0 0) e in omega arith
 lines-not-refused (a ∷ os) ts n p i e =
-    go _ (a .node) (a .period) (a .answer) (i .0) (sym (append-assoc (lineAt a) (answerLines os) (totalLines ts)) ∙ e)
+    go _ (a .node) (a .period) (a .answer) (i .0) (sym (append-assoc (lineFor a) (answerLines os) (totalLines ts)) ∙ e)
   where
     go : (xs : List ℕ) (k period : ℕ) (b : Answer) → Said b → lineOf k b period ++ xs ≡ refusedLine n p → ⊥
     go xs k period (refused m) i e = i
