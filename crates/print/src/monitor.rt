@@ -7,7 +7,7 @@ ghost use lib.ListN.{length};
 ghost use Rattle.text.specs.Wrote.{Wrote};
 ghost use Rattle.print.specs.Monitor.{pointLine, pointRoom, totalLine, totalRoom};
 
-// What a point's line says: its node, its count since the node's last clearing, the mask of the rules that hold, 0 for quiet, and its period.
+// What a point's line says: its node, its count since the node's last clearing, the mask of the rules that hold (0: quiet), its period.
 pub struct PointLine {
     pub node: u32,
     pub count: u32,

@@ -62,7 +62,8 @@ one-by-one rs centre sigma =
 
 module _ (k : ℕ) where
   -- the lines of answers from the period p on, before lines that get no period
-  alone-more : (answers : List Answer) (p : ℕ) (rest : List ℕ) (ls : List (List ℕ)) → ((q : ℕ) → withPeriods q (linesIn rest) ≡ ls) → EachAnswer Said answers
+  alone-more : (answers : List Answer) (p : ℕ) (rest : List ℕ) (ls : List (List ℕ)) → ((q : ℕ) → withPeriods q (linesIn rest) ≡ ls)
+      → EachAnswer Said answers
       → map (withNode k) (withPeriods p (linesIn (aloneLines answers ++ rest))) ≡ bodies (inOrder k p answers) ++ map (withNode k) ls
   unfolding aloneLines bodies inOrder EachAnswer fields newlines
   alone-more [] p rest ls f i = ap (map (withNode k)) (f p)
@@ -70,7 +71,8 @@ module _ (k : ℕ) where
   alone-more (quiet n ∷ answers) p rest ls f i =
       let more = aloneLines answers ++ rest in
       let line = quietWord ++ field n ++ newline in
-      ap (λ l. map (withNode k) (withPeriods p (linesIn l))) (append-assoc line (aloneLines answers) rest ∙ group1 quietWord (field n) newline more)
+      ap (λ l. map (withNode k) (withPeriods p (linesIn l)))
+      (append-assoc line (aloneLines answers) rest ∙ group1 quietWord (field n) newline more)
       ∙ ap (λ l. map (withNode k) (withPeriods p l)) (word-line quietWord (n ∷ []) more refl)
       ∙ ap (map (withNode k)) (point-numbered quietWord (plain .0) n [] (linesIn more) (words .0) p)
       ∙ rw (with-node quietWord (plain .0) k n (p ∷ []), alone-more answers (p + 1) rest ls f (i .1))
@@ -118,7 +120,9 @@ some-answers rs centre sigma (x ∷ xs) n e = let z : _≡_ {A = ℕ} 0 1 = cc i
 
 -- the lines of a node that has readings xs
 abbrev linesBy : List Rule → ℤ → ℕ → ℕ → List ℤ → List (List ℕ)
-linesBy rs centre sigma k xs = bodies (inOrder k 1 (plainChart rs centre sigma xs)) ++ totalsOf k (nodeTotal k (plainChart rs centre sigma xs))
+linesBy rs centre sigma k xs =
+    let answers = plainChart rs centre sigma xs in
+    bodies (inOrder k 1 answers) ++ totalsOf k (nodeTotal k answers)
 
 module _ {centre : ℤ} {sigma : ℕ} {rs : List Rule} {ps : List NodeReading} {printed : List ℕ}
     (o : OnBench ps) (t : MonitorPrints centre sigma rs ps printed) (k : ℕ) where
@@ -130,8 +134,8 @@ module _ {centre : ℤ} {sigma : ℕ} {rs : List Rule} {ps : List NodeReading} {
       ap (linesOf k) (t .lines)
       ∙ no-lines (plainChart rs centre sigma) (one-by-one rs centre sigma) k ps (plain-said rs centre sigma ps) l (no-readings k l ps o)
 
-  -- A node with a point: its lines are those that document 01's program prints for its readings alone, each quiet and signal line with its number behind
-  -- it, from 1, and each line with the node after the first word.
+  -- A node with a point: its lines are those that document 01's program prints for its readings alone, each quiet and signal line with
+  -- its number behind it, from 1, and each line with the node after the first word.
   pub node-alone : (readingsOf k ps ≡ [] → ⊥)
       → linesOf k printed ≡ map (withNode k) (withPeriods 1 (linesIn (aloneBytes (plainChart rs centre sigma (readingsOf k ps)))))
   node-alone n = go (ltb k nodeCount) refl
@@ -140,9 +144,10 @@ module _ {centre : ℤ} {sigma : ℕ} {rs : List Rule} {ps : List NodeReading} {
           → linesOf k printed ≡ map (withNode k) (withPeriods 1 (linesIn (aloneBytes (plainChart rs centre sigma (readingsOf k ps)))))
       go true e =
           let xs = readingsOf k ps in
+          let answers = plainChart rs centre sigma xs in
           below (ltb-true _ _ e)
-          ∙ ap (λ l. bodies (inOrder k 1 (plainChart rs centre sigma xs)) ++ l) (own-total k (plainChart rs centre sigma xs) (some-answers rs centre sigma xs n))
-          ∙ sym (alone-lines k (plainChart rs centre sigma xs) (free-said rs (zonesOf centre sigma xs) []))
+          ∙ ap (λ l. bodies (inOrder k 1 answers) ++ l) (own-total k answers (some-answers rs centre sigma xs n))
+          ∙ sym (alone-lines k answers (free-said rs (zonesOf centre sigma xs) []))
       go false e = absurd (n (no-readings k (ltb-false _ _ e) ps o))
 
   -- A node with none has no line.
@@ -195,11 +200,12 @@ isolation a a′ is is′ k e =
     let t′ = accepted-prints a′ is′ in
     same-lines (t .0) (t .1) (t′ .0) (t′ .1) k e
 
--- In an accepted text the lines of a node that has a point are those that document 01's program would print for its readings alone, each quiet and
--- signal line with its number behind it, 1, 2, 3, .., and each line with the node after the first word.
+-- In an accepted text the lines of a node that has a point are those that document 01's program would print for its readings alone,
+-- each quiet and signal line with its number behind it, 1, 2, 3, .., and each line with the node after the first word.
 pub alone : {s : List ℕ} {centre : ℤ} {sigma : ℕ} {rs : List Rule} {ps : List NodeReading} → Accepted s → MonitorTextIs s centre sigma rs ps
     → (k : ℕ) → (readingsOf k ps ≡ [] → ⊥)
-    → linesOf k (printedBytes (monitorPrinted s)) ≡ map (withNode k) (withPeriods 1 (linesIn (aloneBytes (plainChart rs centre sigma (readingsOf k ps)))))
+    → linesOf k (printedBytes (monitorPrinted s))
+    ≡ map (withNode k) (withPeriods 1 (linesIn (aloneBytes (plainChart rs centre sigma (readingsOf k ps)))))
 alone a is k n =
     let t = accepted-prints a is in
     node-alone (t .0) (t .1) k n

@@ -54,7 +54,8 @@ pub quiet-shape : (node n p : ℕ) (xs : List ℕ) → quietLine node n p ++ xs 
 unfolding quietLine field fields
 quiet-shape node n p xs = group3 quietWord (field node) (field n) (field p) lf xs
 
-pub signal-shape : (node n m p : ℕ) (xs : List ℕ) → signalLine node n m p ++ xs ≡ signalWord ++ (fields (node ∷ n ∷ m ∷ p ∷ []) ++ (10 ∷ xs))
+pub signal-shape : (node n m p : ℕ) (xs : List ℕ)
+    → signalLine node n m p ++ xs ≡ signalWord ++ (fields (node ∷ n ∷ m ∷ p ∷ []) ++ (10 ∷ xs))
 unfolding signalLine field fields
 signal-shape node n m p xs = group4 signalWord (field node) (field n) (field m) (field p) lf xs
 

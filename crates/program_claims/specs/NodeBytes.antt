@@ -16,7 +16,8 @@ use Rattle.text.specs.Word.{newlines}
 use Rattle.parse.specs.Readings.{NodeReading, nodeCount, readingsOf}
 use Rattle.parse.specs.ReadingsLaws.{readings-append, reading-other}
 use Rattle.print.specs.Monitor.{quietWord, signalWord, totalWord, totalLine}
-use Rattle.report.specs.Points.{NodeAnswer, nodeAnswer, NodeTotal, lastAnswer, pointAnswer, benchAnswers, nodeTotal, benchTotals, lineOf, answerLines, totalLines, benchBytes}
+use Rattle.report.specs.Points.{NodeAnswer, nodeAnswer, NodeTotal, lastAnswer, pointAnswer, benchAnswers, nodeTotal, benchTotals}
+use Rattle.report.specs.Points.{lineOf, answerLines, totalLines, benchBytes}
 use Rattle.report.specs.PointsLaws.{last-more}
 use Rattle.program_claims.specs.LinesOnce.{quiet-shape, signal-shape, total-shape}
 use Rattle.program_claims.specs.PrintedOnce.{EachSaid, lineFor}
@@ -157,7 +158,8 @@ order-more k n (x ∷ answers) a =
     let e : n + 1 + length answers ≡ n + length (x ∷ answers) = omega arith in
     ap (λ (l : List NodeAnswer). nodeAnswer k x n ∷ l) (rw e at (order-more k (n + 1) answers a))
 
-own-last : (k node : ℕ) → node ≡ k → (answers before : List Answer) (a : Answer) (period : ℕ) → answers ≡ before ++ (a ∷ []) → (rest : List NodeAnswer)
+own-last : (k node : ℕ) → node ≡ k → (answers before : List Answer) (a : Answer) (period : ℕ) → answers ≡ before ++ (a ∷ [])
+    → (rest : List NodeAnswer)
     → answersOf k (lastAnswer node answers period ++ rest) ≡ nodeAnswer k a period ∷ answersOf k rest
 unfolding answersOf
 own-last k node q answers before a period e rest = rw (e, last-more node before a period, eq-eqb node k q, q)
@@ -181,12 +183,15 @@ module _ (chart : List ℤ → List Answer) (one : OneByOne chart) (k : ℕ) whe
   own-answers : (before ps : List NodeReading) → answersTo before ++ answersOf k (benchAnswers chart before ps) ≡ answersTo (before ++ ps)
   unfolding benchAnswers answersOf
   own-answers before [] = append-nil (answersTo before) ∙ ap answersTo (sym (append-nil before))
-  own-answers before (p ∷ ps) = go (ℕ-discrete (p .node) k) (own-answers (before ++ (p ∷ [])) ps) ∙ ap answersTo (append-assoc before (p ∷ []) ps)
+  own-answers before (p ∷ ps) =
+      go (ℕ-discrete (p .node) k) (own-answers (before ++ (p ∷ [])) ps) ∙ ap answersTo (append-assoc before (p ∷ []) ps)
     where
       go : Dec (p .node ≡ k)
-          → answersTo (before ++ (p ∷ [])) ++ answersOf k (benchAnswers chart (before ++ (p ∷ [])) ps) ≡ answersTo ((before ++ (p ∷ [])) ++ ps)
+          → answersTo (before ++ (p ∷ [])) ++ answersOf k (benchAnswers chart (before ++ (p ∷ [])) ps)
+          ≡ answersTo ((before ++ (p ∷ [])) ++ ps)
           → answersTo before
-          ++ answersOf k (pointAnswer chart (p .node) (readingsOf (p .node) (before ++ (p ∷ []))) ++ benchAnswers chart (before ++ (p ∷ [])) ps)
+          ++ answersOf k
+          (pointAnswer chart (p .node) (readingsOf (p .node) (before ++ (p ∷ []))) ++ benchAnswers chart (before ++ (p ∷ [])) ps)
           ≡ answersTo ((before ++ (p ∷ [])) ++ ps)
       go (yes q) r =
           let xs = readingsOf k before in
@@ -196,7 +201,8 @@ module _ (chart : List ℤ → List Answer) (one : OneByOne chart) (k : ℕ) whe
           readings-append k before (p ∷ []) ∙ ap (λ (l : List ℤ). xs ++ l) (own-reading k p q) in
           let more : chart (readingsOf k (before ++ (p ∷ []))) ≡ chart xs ++ (a .0 ∷ []) = ap chart own ∙ a .1 in
           let period : length (readingsOf (p .node) (before ++ (p ∷ []))) ≡ 1 + length (chart xs) =
-          ap (λ n. length (readingsOf n (before ++ (p ∷ [])))) q ∙ ap length own ∙ length-append xs (p .reading ∷ []) ∙ omega (arith, one .each xs) in
+          ap (λ n. length (readingsOf n (before ++ (p ∷ [])))) q ∙ ap length own ∙ length-append xs (p .reading ∷ [])
+          ∙ omega (arith, one .each xs) in
           let last = own-last k (p .node) q (chart (readingsOf (p .node) (before ++ (p ∷ [])))) (chart xs) (a .0)
           (length (readingsOf (p .node) (before ++ (p ∷ [])))) (ap (λ n. chart (readingsOf n (before ++ (p ∷ [])))) q ∙ more) rest in
           let to : answersTo (before ++ (p ∷ [])) ≡ answersTo before ++ (nodeAnswer k (a .0) (1 + length (chart xs)) ∷ []) =
@@ -208,7 +214,8 @@ module _ (chart : List ℤ → List Answer) (one : OneByOne chart) (k : ℕ) whe
           let none = reading-other k (p .node) (p .reading) d in
           let same : readingsOf k (before ++ (p ∷ [])) ≡ readingsOf k before =
           readings-append k before (p ∷ []) ∙ ap (λ (l : List ℤ). readingsOf k before ++ l) none ∙ append-nil (readingsOf k before) in
-          rw (other-last k (p .node) (chart (readingsOf (p .node) (before ++ (p ∷ [])))) _ (benchAnswers chart (before ++ (p ∷ [])) ps) d) (rw same at r)
+          let rest = benchAnswers chart (before ++ (p ∷ [])) ps in
+          rw (other-last k (p .node) (chart (readingsOf (p .node) (before ++ (p ∷ [])))) _ rest d) (rw same at r)
 
   pub bench-of : (ps : List NodeReading) → answersOf k (benchAnswers chart [] ps) ≡ answersTo ps
   unfolding readingsOf inOrder

@@ -1,5 +1,5 @@
--- TO BELIEVE: the lines of printed bytes, those of them that are a node's, their last fields, and what document 01's monitor program prints for one chart.
--- Definitions.
+-- TO BELIEVE: the lines of printed bytes, those of them that are a node's, their last fields, and what document 01's monitor program
+-- prints for one chart. Definitions.
 use Prim.Native.Nat.{ℕ, zero, suc, _+_}
 use mathlib.Core.Bool.{Bool, true, false, cond, _||_}
 use mathlib.Core.List.{List, [], _∷_, _++_, map}

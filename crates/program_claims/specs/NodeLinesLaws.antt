@@ -12,7 +12,8 @@ use Rattle.text.specs.FieldsLaws.{fields-snoc}
 use Rattle.text.specs.Word.{newlines}
 use Rattle.text.specs.NewlineLaws.{newlines-append, newlines-fields}
 use Rattle.program_claims.specs.NumberOnce.{decimal-once}
-use Rattle.program_claims.specs.NodeLines.{linesIn, beforeComma, behindComma, sameBytes, ofNode, ofPoint, pointsIn, sinceComma, lastField, withNode, withPeriods}
+use Rattle.program_claims.specs.NodeLines.{linesIn, beforeComma, behindComma, sameBytes, ofNode}
+use Rattle.program_claims.specs.NodeLines.{ofPoint, pointsIn, sinceComma, lastField, withNode, withPeriods}
 
 -- ---- where a line ends
 
@@ -126,7 +127,8 @@ module _ (word : List ℕ) (plain : NoComma word) (n : ℕ) (ns : List ℕ) (ls 
   unfolding pointsIn
   other-left e = rw (first-word, e)
 
-  pub point-numbered : ofPoint word ≡ true → (p : ℕ) → withPeriods p (line ∷ ls) ≡ (word ++ fields (n ∷ (ns ++ (p ∷ [])))) ∷ withPeriods (p + 1) ls
+  pub point-numbered : ofPoint word ≡ true → (p : ℕ)
+      → withPeriods p (line ∷ ls) ≡ (word ++ fields (n ∷ (ns ++ (p ∷ [])))) ∷ withPeriods (p + 1) ls
   unfolding withPeriods
   point-numbered e p = rw (first-word, e, fields-more word (n ∷ ns) p)
 
@@ -153,7 +155,8 @@ last-plain since (x ∷ xs) p = rw (p .0) (last-plain (since ++ (x ∷ [])) xs (
 pub last-number : (word ns : List ℕ) (n : ℕ) → lastField (word ++ fields (ns ++ (n ∷ []))) ≡ decimal n
 unfolding field
 last-number word ns n =
-    ap lastField (sym (fields-more word ns n)) ∙ last-behind [] (word ++ fields ns) (decimal n) ∙ last-plain [] (decimal n) (no-comma-decimal n)
+    ap lastField (sym (fields-more word ns n)) ∙ last-behind [] (word ++ fields ns) (decimal n)
+    ∙ last-plain [] (decimal n) (no-comma-decimal n)
 
 -- ---- the node put after the first word
 

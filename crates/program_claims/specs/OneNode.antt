@@ -13,7 +13,8 @@ use Rattle.text.specs.Format.{fields}
 use Rattle.parse.specs.Readings.{NodeReading, nodeCount, readingsOf}
 use Rattle.print.specs.Monitor.{quietWord, signalWord, totalWord}
 use Rattle.report.specs.Printed.{printedBytes}
-use Rattle.report.specs.Points.{NodeAnswer, NodeTotal, lastAnswer, pointAnswer, benchAnswers, nodeTotal, benchTotals, lineOf, answerLines, totalLines, benchBytes}
+use Rattle.report.specs.Points.{NodeAnswer, NodeTotal, lastAnswer, pointAnswer, benchAnswers, nodeTotal, benchTotals}
+use Rattle.report.specs.Points.{lineOf, answerLines, totalLines, benchBytes}
 use Rattle.report.specs.MonitorReport.{monitorPrinted}
 use Rattle.program_claims.specs.LinesOnce.{quiet-shape, signal-shape, total-shape}
 use Rattle.program_claims.specs.Texts.{MonitorTextIs}
@@ -92,7 +93,8 @@ module _ (chart : List ℤ → List Answer) (one : OneByOne chart) (k : ℕ) whe
 answer-line : (k : ℕ) (a : Answer) (p : ℕ) → Said a → (rest : List ℕ) → body k a p ++ (10 ∷ rest) ≡ lineOf k a p ++ rest
 answer-line k (refused n) p i rest = absurd i
 answer-line k (quiet n) p i rest = append-assoc quietWord (fields (k ∷ n ∷ p ∷ [])) (10 ∷ rest) ∙ sym (quiet-shape k n p rest)
-answer-line k (signal n mask) p i rest = append-assoc signalWord (fields (k ∷ n ∷ mask ∷ p ∷ [])) (10 ∷ rest) ∙ sym (signal-shape k n mask p rest)
+answer-line k (signal n mask) p i rest =
+    append-assoc signalWord (fields (k ∷ n ∷ mask ∷ p ∷ [])) (10 ∷ rest) ∙ sym (signal-shape k n mask p rest)
 
 ends-totals : (k : ℕ) (ts : List NodeTotal) → OnlyTotals k ts → withEnds (totalsOf k ts) ≡ totalLines ts
 unfolding OnlyTotals totalsOf withEnds totalLines

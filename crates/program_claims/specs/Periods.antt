@@ -1,7 +1,8 @@
--- CLAIMS: the periods of a node's quiet and signal lines are 1, 2, 3, .., in order, to the number of its points; and they are what its run lengths add up to.
+-- CLAIMS: the periods of a node's quiet and signal lines are 1, 2, 3, .., in order, to the number of its points; and they are what its
+-- run lengths add up to.
 use Prim.Native.Nat.{ℕ, _+_}
 use mathlib.Core.Path.{_≡_, refl, ap, _∙_}
-use mathlib.Core.Bool.{Bool, true, false, cond}
+use mathlib.Core.Bool.{Bool, true, false}
 use mathlib.Core.List.{List, [], _∷_, _++_, map}
 use lib.Dec.{eqb, ltb}
 use lib.IntN.{ℤ}
@@ -9,13 +10,14 @@ use lib.ListN.{length}
 use native.Mathlib.Omega.{arith}
 use borrow.Author.Tests.{ltb-true, ltb-false, eq-eqb}
 use Rattle.rules.specs.declared.Rule.{Rule}
-use Rattle.monitor.specs.ReferenceChart.{Answer, refused, quiet, signal, Charted, charted, rowMask}
+use Rattle.monitor.specs.ReferenceChart.{Answer, refused, quiet, signal, rowMask, chartBy}
 use Rattle.monitor.specs.Calls.{Said, EachAnswer}
 use Rattle.text.specs.Decimal.{decimal}
 use Rattle.parse.specs.Readings.{NodeReading, nodeCount, OnBench, readingsOf}
 use Rattle.print.specs.Monitor.{quietWord, signalWord, totalWord}
 use Rattle.report.specs.Printed.{printedBytes}
-use Rattle.report.specs.Points.{zonesOf, NodeAnswer, nodeAnswer, NodeTotal, signalsIn, benchAnswers, nodeTotal, benchTotals, answerLines, totalLines}
+use Rattle.report.specs.Points.{zonesOf, NodeAnswer, nodeAnswer, NodeTotal, signalsIn, benchAnswers, nodeTotal, benchTotals}
+use Rattle.report.specs.Points.{answerLines, totalLines}
 use Rattle.report.specs.MonitorReport.{monitorPrinted}
 use Rattle.claims.specs.Exact.{freeAnswers}
 use Rattle.program_claims.specs.Texts.{MonitorTextIs}
@@ -48,8 +50,8 @@ module _ (k : ℕ) where
   no-points-in (a ∷ rest) =
       rw (eq-eqb k k refl) (other-left totalWord (plain .2) k (length (a ∷ rest) ∷ signalsIn (a ∷ rest) ∷ []) [] (words .2))
 
-node-periods : {centre : ℤ} {sigma : ℕ} {rs : List Rule} {ps : List NodeReading} {printed : List ℕ} → OnBench ps → MonitorPrints centre sigma rs ps printed
-    → (k : ℕ) → periodFields k printed ≡ map decimal (countFrom 1 (length (readingsOf k ps)))
+node-periods : {centre : ℤ} {sigma : ℕ} {rs : List Rule} {ps : List NodeReading} {printed : List ℕ} → OnBench ps
+    → MonitorPrints centre sigma rs ps printed → (k : ℕ) → periodFields k printed ≡ map decimal (countFrom 1 (length (readingsOf k ps)))
 unfolding pointsIn countFrom
 node-periods {centre} {sigma} {rs} {ps} {printed} o t k = go (ltb k nodeCount) refl
   where
@@ -65,7 +67,8 @@ node-periods {centre} {sigma} {rs} {ps} {printed} o t k = go (ltb k nodeCount) r
         rw (none, no-readings k (ltb-false _ _ e) ps o)
 
 -- In an accepted text the period fields of a node's quiet and signal lines are 1, 2, 3, .., in order, to the number of its points.
-pub periods : {s : List ℕ} {centre : ℤ} {sigma : ℕ} {rs : List Rule} {ps : List NodeReading} → Accepted s → MonitorTextIs s centre sigma rs ps
+pub periods : {s : List ℕ} {centre : ℤ} {sigma : ℕ} {rs : List Rule} {ps : List NodeReading} → Accepted s
+    → MonitorTextIs s centre sigma rs ps
     → (k : ℕ) → periodFields k (printedBytes (monitorPrinted s)) ≡ map decimal (countFrom 1 (length (readingsOf k ps)))
 periods a is k =
     let t = accepted-prints a is in
@@ -90,25 +93,22 @@ unfoldable pub AddsUp : ℕ → List NodeAnswer → Type 0
 AddsUp runs [] = Unit {0}
 AddsUp runs (a ∷ rest) = (a .period ≡ runs + countIn (a .answer)) × AddsUp (runsAfter runs (a .answer)) rest
 
--- what the plain chart makes of a row, quiet or not
-abbrev next : Bool → List ℕ → ℕ → Charted
-next b row mask = cond b (charted (quiet (length row)) row) (charted (signal (length row) mask) [])
-
-chart-adds : (k : ℕ) (rs : List Rule) (zs row : List ℕ) (runs p : ℕ) → p ≡ runs + length row + 1 → AddsUp runs (inOrder k p (freeAnswers rs row zs))
+chart-adds : (k : ℕ) (rs : List Rule) (zs row : List ℕ) (runs p : ℕ) → p ≡ runs + length row + 1
+    → AddsUp runs (inOrder k p (freeAnswers rs row zs))
 unfolding AddsUp inOrder freeAnswers
 chart-adds k rs [] row runs p e = tt
 chart-adds k rs (z ∷ zs) row runs p e =
-    go (eqb (rowMask rs (z ∷ row)) 0) (chart-adds k rs zs (z ∷ row) runs (p + 1) (omega arith))
+    go (rowMask rs (z ∷ row)) _ refl (chart-adds k rs zs (z ∷ row) runs (p + 1) (omega arith))
     (chart-adds k rs zs [] (runs + length (z ∷ row)) (p + 1) (omega arith))
   where
-    go : (b : Bool) → AddsUp runs (inOrder k (p + 1) (freeAnswers rs (z ∷ row) zs))
+    go : (mask : ℕ) (b : Bool) → eqb mask 0 ≡ b → AddsUp runs (inOrder k (p + 1) (freeAnswers rs (z ∷ row) zs))
         → AddsUp (runs + length (z ∷ row)) (inOrder k (p + 1) (freeAnswers rs [] zs))
-        → AddsUp runs (nodeAnswer k (next b (z ∷ row) (rowMask rs (z ∷ row)) .answer) p ∷ inOrder k (p + 1) (freeAnswers rs (next b (z ∷ row) (rowMask rs (z ∷ row)) .row) zs))
-    go true q s = (omega arith, q)
-    go false q s = (omega arith, s)
+        → (let c = chartBy mask (z ∷ row) in AddsUp runs (nodeAnswer k (c .answer) p ∷ inOrder k (p + 1) (freeAnswers rs (c .row) zs)))
+    go mask true q quietly signalling = rw q (omega arith, quietly)
+    go mask false q quietly signalling = rw q (omega arith, signalling)
 
--- Whoever reads the printed bytes as the lines of any answers, each with a node and a period, finds for every node that they add up: the period of a
--- signal is the sum of the run lengths up to it.
+-- Whoever reads the printed bytes as the lines of any answers, each with a node and a period, finds for every node that they add up: the
+-- period of a signal is the sum of the run lengths up to it.
 pub periods-add-up : (s : List ℕ) (os : List NodeAnswer) (ts : List NodeTotal) → EachSaid os
     → printedBytes (monitorPrinted s) ≡ answerLines os ++ totalLines ts → (k : ℕ) → AddsUp 0 (answersOf k os)
 periods-add-up s os ts i e k = go (monitor-read-off s os ts i e)

@@ -20,7 +20,8 @@ use Rattle.print.specs.RowLine.{standingsLine, headerLine, rowLine, arlLine}
 use Rattle.print.specs.PercentLine.{percentLine}
 use Rattle.report.specs.Printed.{printedBytes}
 use Rattle.parse.specs.Readings.{NodeReading, nodeCount, readingsOf}
-use Rattle.report.specs.Points.{zonesOf, NodeAnswer, nodeAnswer, NodeTotal, lastAnswer, pointAnswer, benchAnswers, benchTotals, lineOf, answerLines, totalLines, benchBytes}
+use Rattle.report.specs.Points.{zonesOf, NodeAnswer, nodeAnswer, NodeTotal, lastAnswer, pointAnswer, benchAnswers, benchTotals}
+use Rattle.report.specs.Points.{lineOf, answerLines, totalLines, benchBytes}
 use Rattle.report.specs.TableReport.{tablePrinted}
 use Rattle.report.specs.MonitorReport.{monitorPrinted}
 use Rattle.program_claims.specs.Texts.{TableTextIs, MonitorTextIs}
@@ -234,7 +235,8 @@ answers-once : (os bs : List NodeAnswer) (ts us : List NodeTotal) → EachSaid o
 unfolding answerLines EachSaid
 answers-once [] [] ts us i j e = (refl, totals-once ts us e)
 answers-once [] (b ∷ bs) ts us i j e =
-    absurd (no-total _ (b .node) (b .period) (b .answer) (j .0) ts (sym (append-assoc (lineFor b) (answerLines bs) (totalLines us)) ∙ sym e))
+    absurd
+    (no-total _ (b .node) (b .period) (b .answer) (j .0) ts (sym (append-assoc (lineFor b) (answerLines bs) (totalLines us)) ∙ sym e))
 answers-once (a ∷ os) [] ts us i j e =
     absurd (no-total _ (a .node) (a .period) (a .answer) (i .0) us (sym (append-assoc (lineFor a) (answerLines os) (totalLines ts)) ∙ e))
 answers-once (a ∷ os) (b ∷ bs) ts us i j e =
@@ -263,8 +265,8 @@ unfolding EachSaid benchAnswers
 bench-said chart f before [] = tt
 bench-said chart f before (p ∷ ps) =
     let xs = readingsOf (p .node) (before ++ (p ∷ [])) in
-    said-append (pointAnswer chart (p .node) xs) (benchAnswers chart (before ++ (p ∷ [])) ps) (last-said (p .node) (length xs) (chart xs) (f xs))
-    (bench-said chart f (before ++ (p ∷ [])) ps)
+    said-append (pointAnswer chart (p .node) xs) (benchAnswers chart (before ++ (p ∷ [])) ps)
+    (last-said (p .node) (length xs) (chart xs) (f xs)) (bench-said chart f (before ++ (p ∷ [])) ps)
 
 pub plain-said : (rs : List Rule) (centre : ℤ) (sigma : ℕ) (ps : List NodeReading) → EachSaid (benchAnswers (plainChart rs centre sigma) [] ps)
 plain-said rs centre sigma ps = bench-said (plainChart rs centre sigma) (λ xs. free-said rs (zonesOf centre sigma xs) []) [] ps
@@ -286,8 +288,8 @@ pub bench-not-refused : (rs : List Rule) (centre : ℤ) (sigma : ℕ) (ps : List
 unfolding benchBytes
 bench-not-refused rs centre sigma ps n p e = lines-not-refused _ _ n p (plain-said rs centre sigma ps) e
 
--- Whoever reads the monitor program's output as the lines of any answers, each with a node and a period, and any totals reads those of each node's
--- plain chart, for the points whose lines the text has.
+-- Whoever reads the monitor program's output as the lines of any answers, each with a node and a period, and any totals reads those of
+-- each node's plain chart, for the points whose lines the text has.
 pub monitor-read-off : (s : List ℕ) (os : List NodeAnswer) (ts : List NodeTotal) → EachSaid os
     → printedBytes (monitorPrinted s) ≡ answerLines os ++ totalLines ts
     → (centre : ℤ) × (sigma : ℕ) × (rs : List Rule) × (ps : List NodeReading) × MonitorTextIs s centre sigma rs ps

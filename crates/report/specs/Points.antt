@@ -55,8 +55,8 @@ lastAnswer node [] period = []
 lastAnswer node (a ∷ []) period = nodeAnswer node a period ∷ []
 lastAnswer node (a ∷ b ∷ rest) period = lastAnswer node (b ∷ rest) period
 
--- What is said of a point whose node has these readings up to it, its own the last: a chart answers a list of readings one by one, and the point gets
--- the last answer; its period is the number of these readings.
+-- What is said of a point whose node has these readings up to it, its own the last: a chart answers a list of readings one by one, and
+-- the point gets the last answer; its period is the number of these readings.
 abbrev pub pointAnswer : (List ℤ → List Answer) → ℕ → List ℤ → List NodeAnswer
 pointAnswer chart node xs = lastAnswer node (chart xs) (length xs)
 

@@ -32,7 +32,8 @@ use Rattle.parse.specs.ReadingsLaws.{one-point, no-points, readings-append, rea
 use Rattle.print.specs.Monitor.{quietLine, signalLine, pointLine, pointRoom}
 use Rattle.report.specs.declared.nodes.Node.{Node}
 use Rattle.report.specs.declared.nodes.NodePoint.{NodePoint}
-use Rattle.report.specs.Points.{zonesOf, NodeAnswer, nodeAnswer, lastAnswer, pointAnswer, benchAnswers, signalsIn, benchTotals, lineOf, answerLines, totalLines, benchBytes}
+use Rattle.report.specs.Points.{zonesOf, NodeAnswer, nodeAnswer, lastAnswer, pointAnswer, benchAnswers, signalsIn, benchTotals}
+use Rattle.report.specs.Points.{lineOf, answerLines, totalLines, benchBytes}
 use Rattle.report.specs.Nodes.{freshNode, nodeTaken, takenChart, takenAfter, nodeAfter, totalOf, totalsOf}
 use Rattle.report.specs.NodesLaws.{answerAfter, answers-more, node-more, node-valid, node-small, node-total}
 use Rattle.report.specs.ZonesLaws.{zones-append, zones-exist, zones-length}
@@ -48,7 +49,8 @@ last-more node (x ∷ []) a period = refl
 last-more node (x ∷ y ∷ rest) a period = last-more node (y ∷ rest) a period
 
 pub bench-more : (chart : List ℤ → List Answer) (before ps : List NodeReading) (p : NodeReading)
-    → benchAnswers chart before (ps ++ (p ∷ [])) ≡ benchAnswers chart before ps ++ pointAnswer chart (p .node) (readingsOf (p .node) (before ++ (ps ++ (p ∷ []))))
+    → benchAnswers chart before (ps ++ (p ∷ []))
+    ≡ benchAnswers chart before ps ++ pointAnswer chart (p .node) (readingsOf (p .node) (before ++ (ps ++ (p ∷ []))))
 unfolding benchAnswers
 bench-more chart before [] p = append-nil _
 bench-more chart before (q ∷ ps) p =
@@ -71,7 +73,8 @@ unfolding pointLine
 mask-line node mask count period = go (eqb mask 0)
   where
     go : (b : Bool)
-        → cond b (quietLine node count period) (signalLine node count mask period) ≡ lineOf node (cond b (quiet count) (signal count mask)) period
+        → cond b (quietLine node count period) (signalLine node count mask period)
+        ≡ lineOf node (cond b (quiet count) (signal count mask)) period
     go true = refl
     go false = refl
 
@@ -185,7 +188,8 @@ module _ {s : List ℕ} {at : ℕ} {rs : List Rule} {centre : ℤ} {sigma : ℕ}
 
     pub written-more : (node : ℕ) (x : ℤ) (next : ℕ) → lineAt s i ≡ Point node x next
         → (z : ℕ) → z ≡ zoneAt (x -ℤ centre) sigma → (p : NodePoint) → p ≡ nodeTaken rs (getD nodes node freshNode) z
-        → {after′ : List ℕ} (r : ℕ) → Wrote after end after′ r (pointLine (record { node = node; count = p .count; mask = p .mask; period = p .period }))
+        → {after′ : List ℕ} (r : ℕ)
+        → Wrote after end after′ r (pointLine (record { node = node; count = p .count; mask = p .mask; period = p .period }))
         → r ≤ end + pointRoom
         → BenchWritten s at rs centre sigma before after′ (set nodes node (p .next)) next r
     unfolding OnBench nodeTaken nodeAfter

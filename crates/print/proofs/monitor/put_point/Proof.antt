@@ -46,8 +46,8 @@ returns c =
     let e = b .before .before .before .before in
     let f = e .before .before .before .before in
     let n = f .before .before .before .before in
-    let line = then (then (then (n .put-short-named .ensures .0) (f .put-short-field .ensures .0)) (e .put-short-field2 .ensures .0)) (b .put-byte .ensures) in
-    (wrote-quiet _ (omega arith) line, omega arith)
+    let fields = then (then (n .put-short-named .ensures .0) (f .put-short-field .ensures .0)) (e .put-short-field2 .ensures .0) in
+    (wrote-quiet _ (omega arith) (then fields (b .put-byte .ensures)), omega arith)
 
 slice-aggregate-put-short-named-2 : tie.Need-slice-aggregate-put-short-named-2
 slice-aggregate-put-short-named-2 c = search needs
