@@ -47,10 +47,6 @@ pub fn large() -> Vec<Rule> {
 /// is missing from 2^30. C0 is a line, and has no area.
 pub const IN_CONTROL: [u32; ZONES] = [2_898_884, 22_978_326, 145_927_014, 366_516_130, 366_516_130, 145_927_014, 22_978_326, 0];
 
-/// Points that are rarely outside the inner zones, every zone with a weight of its own: a chart of three of nine that stays quiet for tens of
-/// thousands of points, so that its table has units in every row to the last.
-pub const RARE: [u32; ZONES] = [1_000_003, 4_000_037, 5_000_011, 6_000_101, 1_045_741_643, 2_000_003, 3_000_017, 7_000_009];
-
-/// Points near the centre line on either side and seldom on it, every zone with a weight of its own: Western Electric's table has units in each
-/// of 3,000 rows.
-pub const CENTRED: [u32; ZONES] = [1_009, 20_011, 400_009, 535_890_743, 536_300_021, 500_009, 30_011, 600_011];
+/// Points that are hardly ever off the centre line, every zone with a weight of its own: a chart of any of these lists stays quiet for tens
+/// of thousands of points, so that its table has units in every row to the last.
+pub const STEADY: [u32; ZONES] = [1_009, 2_003, 3_001, 4_001, 5_003, 6_007, 7_001, 1_073_713_799];

@@ -2,8 +2,8 @@
 use catrovindy::{
     box_plot, bracket, monitor_report, monitor_report_into, raw, shift_weights, table, table_report, weights_report, weights_report_into, zone,
     Batch, BoxPlot, Bracket, Monitor, PlotItem, Point, Refusal, Rule, RuleList, Table, Weights, A1, ALL_ZONES, B1, C0, C1, MAX_COUNT, MAX_SHIFT,
-    MAX_TEXT, MONITOR_SIZE, NODES, S, SET_A1, SET_ABOVE, SET_A_OR_B_ABOVE, SET_BELOW, SET_C0, SET_S, TABLE_SIZE, WEIGHTS_SIZE, WEIGHT_TOTAL,
-    ZONES,
+    MAX_TEXT, MONITOR_SIZE, NODES, S, SET_A1, SET_ABOVE, SET_A_OR_B_ABOVE, SET_BELOW, SET_C0, SET_S, TABLE_SIZE, UNITS_PER_ONE,
+    WEIGHTS_SIZE, WEIGHT_TOTAL, ZONES,
 };
 use std::ptr::{null, null_mut};
 
@@ -213,6 +213,24 @@ fn a_table_and_its_bounds() {
     assert_eq!((low, high - low), (1_152_907_420_522_847_495, 1000 * 308));
     assert_eq!((table.signal_by(0), table.signal_by(1001)), (None, None));
     assert_eq!(refused(table.bracket(100)), (14, 0));
+}
+
+/// How much less than 2^60 the chance by n and what is left at n are together.
+fn short_by(table: &Table, n: u32) -> u64 {
+    let (by, _) = table.signal_by(n).expect("within the horizon");
+    UNITS_PER_ONE.checked_sub(by + table.survival[n as usize - 1]).expect("at most 2^60")
+}
+
+/// Rounding takes at most N units a row: no more than 307,000 by the last of 1,000 rows with Western Electric, and 17,000 with Duncan.
+#[test]
+fn by_and_left_are_2_to_the_60_but_for_rounding() {
+    for (rules, states, at_last) in [(RuleList::western_electric(), 307, 147_257), (RuleList::duncan(), 17, 9_047)] {
+        let table = Table::new(&rules, &IN_CONTROL, 1000).expect("accepted");
+        assert_eq!((table.figures.states, short_by(&table, 1000)), (states, at_last));
+        for n in 1..=1000 {
+            assert!(short_by(&table, n) <= u64::from(n * states), "{states} standings, n {n}");
+        }
+    }
 }
 
 /// The plot record has what the table and its brackets have.

@@ -1,6 +1,7 @@
 //! Compares the proved library with the second implementation on many inputs, accepted and refused: every figure, every place of both
 //! lists, the places beyond the horizon among them. Where the centre has weight 0, also with a table that knows the other seven zones alone.
-//! Prints what it compared, and stops at the first difference.
+//! In every row of an accepted table, what has signalled and what is left are 2^60 together, but for what rounding takes. Prints what it
+//! compared, and stops at the first difference.
 use bench::inputs::Source;
 use bench::tally::Tally;
 use bench::{bracket, chart, duncan, large, lent, refuse, rules, table, western_electric, Refusal, Rule, IN_CONTROL, ZONES};
@@ -44,13 +45,28 @@ fn odd_brackets(tally: &mut Tally, source: &mut Source) {
     same_bracket(tally, &chances, n, p);
 }
 
-/// What was met: among the tables those where the centre has weight 0, and those of them where it leads to standings of its own.
+/// What was met: the rows of all accepted tables; among the tables those where the centre has weight 0, and those of them where it leads to
+/// standings of its own.
 #[derive(Default)]
 struct Met {
     tables: Tally,
     brackets: Tally,
+    rows: u64,
     off_centre: u64,
     with_more: u64,
+}
+
+/// At each n, the chance of a signal by n and what is left are at most 2^60 together, and short of it by at most N units a row, which
+/// rounding takes.
+fn by_and_left(met: &mut Met, states: u32, (p, s): (&[u64], &[u64]), call: impl Fn() -> String) {
+    let mut by = 0;
+    for (n, (&chance, &left)) in (1u128..).zip(p.iter().zip(s)) {
+        by += u128::from(chance);
+        let short = (1u128 << 60).checked_sub(by + u128::from(left));
+        let within = short.is_some_and(|units| units <= n * u128::from(states));
+        assert!(within, "{by} by {n} and {left} left, {states} standings, {}", call());
+        met.rows += 1;
+    }
 }
 
 /// A zone of weight 0 alters N alone: the table over the other seven zones has the same rows and mean, and no more standings.
@@ -83,6 +99,7 @@ fn same(met: &mut Met, rules: &[Rule], weights: &[u32; ZONES], horizon: u32, len
     met.tables.add(&ours);
     if let Ok(f) = ours {
         let (p, s) = (&p[..horizon as usize], &s[..horizon as usize]);
+        by_and_left(met, f.states, (p, s), || format!("{rules:?} {weights:?} {horizon}"));
         brackets(&mut met.brackets, p, f.states);
         if let [others @ .., 0] = weights {
             same_off_centre(met, rules, others, f, (p, s));
@@ -123,9 +140,11 @@ fn main() {
     assert_eq!(standings(&western_electric()), (Ok(307), Ok(295)));
     assert_eq!(standings(&duncan()), (Ok(17), Ok(17)));
     assert_eq!(standings(&crowded), (refuse(10, 0), Ok(590)));
-    let Met { tables, brackets, off_centre, with_more } = met;
-    let more = format!(" ({off_centre} with weight 0 on the centre, as over the other seven zones; N is larger in {with_more} of these)");
+    let Met { tables, brackets, rows, off_centre, with_more } = met;
+    let centre = format!("{off_centre} with weight 0 on the centre, as over the other seven zones; N is larger in {with_more} of these");
+    let more = format!(" ({centre}), by and left together at most n * N short of 2^60 in each of their {rows} rows");
     tables.report("table", &more, &[2, 3, 4, 8, 9, 10, 11]);
     brackets.report("bracket", "", &[12, 13, 14, 15]);
+    assert!(rows > 0, "no row was looked at");
     assert!((off_centre >= 1_000 && with_more >= 300) || count < 20_000, "the centre had weight 0 too seldom");
 }

@@ -6,7 +6,7 @@ use bench::monitor_program::{monitor_program, NODES};
 use bench::ring::{zone, Ring};
 use bench::shift::{self, weights_by};
 use bench::table_program::table_program;
-use bench::{duncan, large, lent, table, western_electric, Rule, CENTRED, IN_CONTROL, RARE, ZONES};
+use bench::{duncan, large, lent, table, western_electric, Rule, IN_CONTROL, STEADY, ZONES};
 use catrovindy::{shift_weights, Monitor, MAX_SHIFT, MAX_TEXT, MONITOR_SIZE, TABLE_SIZE};
 use std::hint::black_box;
 use std::time::Instant;
@@ -23,15 +23,15 @@ fn turns(rounds: u32, mut ours: impl FnMut(), mut theirs: impl FnMut()) -> (f64,
     (0..rounds).map(|_| (time(&mut ours), time(&mut theirs))).fold((f64::INFINITY, f64::INFINITY), |(a, b), (x, y)| (a.min(x), b.min(y)))
 }
 
-/// Whole calls of the table on both sides, from the rules to the last row: exploring, grouping and rows.
-fn tables(name: &str, list: &[Rule], weights: &[u32; ZONES], horizon: u32) {
+/// Whole calls of the table on both sides, from the rules to the last row: exploring, grouping and rows. Answers the units in the last row.
+fn tables(name: &str, list: &[Rule], weights: &[u32; ZONES], horizon: u32, rounds: u32) -> u64 {
     let h = horizon as usize;
     let (mut p, mut s) = (vec![0u64; h], vec![0u64; h]);
     let (mut p2, mut s2) = (vec![0u64; h], vec![0u64; h]);
     let taken = lent::list(list);
     let mut states = 0;
     let (ours, theirs) = turns(
-        3,
+        rounds,
         || {
             catrovindy::table(&taken, weights, horizon, &mut p, &mut s).expect("accepted");
         },
@@ -47,6 +47,12 @@ fn tables(name: &str, list: &[Rule], weights: &[u32; ZONES], horizon: u32) {
         theirs * 1e3,
         theirs / ours
     );
+    s[h - 1]
+}
+
+/// The longest table, with units in every row to the last: a row has no more of them than the one before it.
+fn steady(name: &str, list: &[Rule], rounds: u32) {
+    assert!(tables(name, list, &STEADY, 65_535, rounds) > 0, "{name}: no units in the last row");
 }
 
 /// The chart of the long series.
@@ -185,13 +191,14 @@ fn main() {
     println!("whole texts:");
     programs();
     println!("tables with units in every row to the last:");
-    tables("Western Electric", &western_electric(), &CENTRED, 3_000);
-    tables("3,9 with 3,8", &large(), &RARE, 65_535);
+    steady("Western Electric", &western_electric(), 10);
+    steady("Duncan", &duncan(), 40);
+    steady("3,9 with 3,8", &large(), 5);
     println!("tables in control, where all units are rounded away before the last row:");
-    tables("Western Electric", &western_electric(), &IN_CONTROL, 65_535);
-    tables("Duncan", &duncan(), &IN_CONTROL, 65_535);
-    tables("3,9 with 3,8", &large(), &IN_CONTROL, 65_535);
+    tables("Western Electric", &western_electric(), &IN_CONTROL, 65_535, 10);
+    tables("Duncan", &duncan(), &IN_CONTROL, 65_535, 40);
+    tables("3,9 with 3,8", &large(), &IN_CONTROL, 65_535, 5);
     println!("exploring and one row:");
-    tables("Western Electric", &western_electric(), &IN_CONTROL, 1);
-    tables("3,9 with 3,8", &large(), &IN_CONTROL, 1);
+    tables("Western Electric", &western_electric(), &IN_CONTROL, 1, 40);
+    tables("3,9 with 3,8", &large(), &IN_CONTROL, 1, 40);
 }

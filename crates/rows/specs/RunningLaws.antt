@@ -1,97 +1,95 @@
--- Laws of the rows: what goes along the edges is what the chain's moves send, so each row is the table's.
-use mathlib.Core.Path.{_≡_, refl, sym, ap, ap₂, _∙_}
-use mathlib.Core.Bool.{Bool, true, false, cond}
+-- Laws of the rows: what comes by the groups is what the chain's moves send, so each row is the table's.
+use mathlib.Core.Path.{_≡_, refl, sym, ap, _∙_}
+use mathlib.Core.Bool.{Bool}
 use mathlib.Core.List.{List, _∷_}
-use Prim.Native.Nat.{ℕ, zero, suc, _+_, _-_, _*_, _/_, _<_}
-use native.Mathlib.Nat.{mul-zero}
+use Prim.Native.Nat.{ℕ, zero, suc, _+_, _-_, _*_, _/_, _≤_, _<_}
+use native.Mathlib.Decide.{ℕ-discrete}
 use native.Mathlib.Numerals.{add-one}
 use native.Mathlib.Omega.{arith}
-use lib.Dec.{eqb, ltb}
-use lib.ListN.{length, getD, set, replicate, length-replicate}
-use borrow.Author.Tests.{eq-eqb, ne-eqb, ltb-true}
+use lib.Dec.{eqb}
+use lib.ListN.{length, getD, replicate, length-set}
+use borrow.Author.Tests.{ne-eqb}
 use Rattle.rules.specs.Bounds.{zoneCount, maxStates}
 use Rattle.runlength.specs.Sum.{sum, only, at}
-use Rattle.runlength.specs.SumLaws.{sum-zero, sum-more, sum-cong, sum-mul, sum-pick}
+use Rattle.runlength.specs.SumLaws.{sum-zero, sum-more, sum-cong, sum-term, sum-none, sum-pick}
 use Rattle.runlength.specs.TabLaws.{front-none, front-more}
-use Rattle.runlength.specs.Automaton.{quiet, signal, after}
-use Rattle.runlength.specs.Chain.{inflow, signalled, units, pmf, survival, restrictedMean}
-use Rattle.runlength.specs.Listed.{entryMove}
+use Rattle.runlength.specs.Automaton.{after}
+use Rattle.runlength.specs.Chain.{Chain, Proper, inflow, signalled, units, pmf, survival, restrictedMean}
+use Rattle.runlength.specs.ListedLaws.{listed-proper}
+use Rattle.runlength.specs.FlowLaws.{step-conservation}
 use Rattle.runlength.specs.Scale.{weightTotal, unitsPerOne}
-use Rattle.rows.specs.MoreSumLaws.{only-mul, getD-zeros}
-use Rattle.rows.specs.Rows.{chain, Weights, CanRun, Ran}
-use Rattle.rows.specs.Edges.{target, moved, weightTo, CanGroup, Grouped}
-use Rattle.rows.specs.EdgesLaws.{moved-all}
-use Rattle.rows.specs.RowFlow.{flow, Edges, CanRow, Rowed}
-use Rattle.rows.specs.Running.{Running, Meant}
+use Rattle.sources.specs.MoreLaws.{getD-zeros}
+use Rattle.sources.specs.Sources.{come, CanListSources, Listed}
+use Rattle.rows.specs.Rows.{chain, CanRun, Ran}
+use Rattle.row.specs.Arrivals.{Flows}
+use Rattle.row.specs.OneRow.{CanRow, Rowed, CanPoint, Pointed}
+use Rattle.rows.specs.Running.{Running, CanMean, Meant, Put}
 
--- a move's share for a state, and for the signal
-to-state : (n x t v a : ℕ) → t < n → v * only (eqb (target n x) t) a ≡ after (entryMove n x) 0 (λ r. only (eqb r t) (v * a))
-unfolding target
-to-state n x t v a h = go (ltb x n)
-  where
-    go : (b : Bool) → v * only (eqb (cond b x n) t) a ≡ after (cond b (quiet x) signal) 0 (λ r. only (eqb r t) (v * a))
-    go true = sym (only-mul v a (eqb x t))
-    go false = rw (ne-eqb n t (omega arith)) (mul-zero v)
+-- what comes in and what signals go by the units of the states alone
+module _ (c : Chain) (u v : ℕ → ℕ) (e : (s : ℕ) → s < c .size → u s ≡ v s) where
+  inflow-cong : (t : ℕ) → inflow c u t ≡ inflow c v t
+  unfolding inflow
+  inflow-cong t =
+      sum-cong (c .size) _ _
+      (λ s l. ap (λ (x : ℕ). sum (c .automaton .zones) (λ z. after (c .automaton .move s z) 0 (λ r. only (eqb r t) (x * c .weight z)))) (e s l))
 
-to-signal : (n x v a : ℕ) → v * only (eqb (target n x) n) a ≡ after (entryMove n x) (v * a) (λ r. 0)
-unfolding target
-to-signal n x v a = go (ltb x n) refl
-  where
-    go : (b : Bool) → ltb x n ≡ b → v * only (eqb (cond b x n) n) a ≡ after (cond b (quiet x) signal) (v * a) (λ r. 0)
-    go true e = rw (ne-eqb x n (omega (arith, ltb-true x n e))) (mul-zero v)
-    go false e = rw (eq-eqb n n refl)
+  signalled-cong : signalled c u ≡ signalled c v
+  unfolding signalled
+  signalled-cong =
+      sum-cong (c .size) _ _
+      (λ s l. ap (λ (x : ℕ). sum (c .automaton .zones) (λ z. after (c .automaton .move s z) (x * c .weight z) (λ r. 0))) (e s l))
 
-module _ {m : List ℕ} {n : ℕ} {w tg sh ct : List ℕ} (g : Grouped m n w n tg sh ct) where
-  edges-of : Weights w → Edges tg sh ct n
-  edges-of p = record {
-    targets = omega (arith, g .few, g .targets);
-    shares = omega (arith, g .few, g .shares);
-    counts = g .counts;
-    inside = g .inside;
-    all = λ i l. sum-cong (n + 1) (weightTo tg sh ct i) (moved m n w i zoneCount) (λ t h. g .shared i l t) ∙ moved-all m n w i p;
-  }
+pub put-pmf : {p l k : ℕ} {ps ss ps′ ss′ : List ℕ} → Put p l k ps ss ps′ ss′ → length ps′ ≡ length ps
+put-pmf {p} {l} {k} {ps} d = ap length (d .pmf) ∙ length-set ps k p
 
-  module _ (u v : ℕ → ℕ) (e : (i : ℕ) → i < n → u i ≡ v i) where
-    -- a sum over the edges is the sum over states and zones
-    by-zones : (t : ℕ) (f : ℕ → ℕ → ℕ) → ((i z : ℕ) → v i * only (eqb (target n (getD m (zoneCount * i + z) 0)) t) (getD w z 0) ≡ f i z)
-        → flow tg sh ct u n t ≡ sum n (λ i. sum zoneCount (f i))
-    unfolding flow moved
-    by-zones t f q =
-        sum-cong n (λ i. u i * weightTo tg sh ct i t) (λ i. sum zoneCount (f i))
-        (λ i l. ap₂ (λ x y. x * y) (e i l) (g .shared i l t)
-        ∙ sym (sum-mul zoneCount (v i) (λ z. only (eqb (target n (getD m (zoneCount * i + z) 0)) t) (getD w z 0)))
-        ∙ sum-cong zoneCount (λ z. v i * only (eqb (target n (getD m (zoneCount * i + z) 0)) t) (getD w z 0)) (f i) (λ z h. q i z))
-
-    flow-inflow : (t : ℕ) → t < n → flow tg sh ct u n t ≡ inflow (chain m n w) v t
-    unfolding inflow
-    flow-inflow t h = by-zones t _ (λ i z. to-state n (getD m (zoneCount * i + z) 0) t (v i) (getD w z 0) h)
-
-    flow-signalled : flow tg sh ct u n n ≡ signalled (chain m n w) v
-    unfolding signalled
-    flow-signalled = by-zones n _ (λ i z. to-signal n (getD m (zoneCount * i + z) 0) (v i) (getD w z 0))
+pub put-survival : {p l k : ℕ} {ps ss ps′ ss′ : List ℕ} → Put p l k ps ss ps′ ss′ → length ss′ ≡ length ss
+put-survival {p} {l} {k} {ps} {ss} d = ap length (d .survival) ∙ length-set ss k l
 
 -- the first units: all in the state of a chart that was just reset
 units-start : (j t : ℕ) → getD {A = ℕ} (unitsPerOne ∷ replicate j 0) t 0 ≡ only (eqb 0 t) unitsPerOne
 units-start j zero = refl
 units-start j (suc t) = getD-zeros j t ∙ sym (ap (λ (b : Bool). only b unitsPerOne) (ne-eqb 0 (suc t) (omega arith)))
 
-pub group-of : {m : List ℕ} {n : ℕ} {w : List ℕ} {h : ℕ} {ps ss : List ℕ} → CanRun m n w h ps ss
-    → CanGroup m n w (replicate (zoneCount * maxStates) 0) (replicate (zoneCount * maxStates) 0) (replicate maxStates 0)
-group-of p = record {
-  moves = p .moves;
-  weights = p .weights;
-  targets = omega (arith, length-replicate {A = ℕ} (zoneCount * maxStates) 0, p .moves .most);
-  shares = omega (arith, length-replicate {A = ℕ} (zoneCount * maxStates) 0, p .moves .most);
-  counts = omega (arith, length-replicate {A = ℕ} maxStates 0, p .moves .most);
-  inside = record { inside = λ k. omega (arith, getD-zeros (zoneCount * maxStates) k) };
-}
-
 module _ {m : List ℕ} {n : ℕ} {w : List ℕ} {h : ℕ} {ps ss : List ℕ} (p : CanRun m n w h ps ss) where
+  pub sources-of : CanListSources m n w (replicate (zoneCount * maxStates) 0) (replicate (zoneCount * maxStates + 1) 0) (replicate (zoneCount * maxStates) 0)
+      (replicate (maxStates + 1) 0) (replicate (maxStates + 1) 0)
+  sources-of = record {
+    some = p .some;
+    most = p .moves .most;
+    many = p .moves .many;
+    zones = p .weights .zones;
+    total = p .weights .total;
+    sources = refl;
+    firsts = refl;
+    shares = refl;
+    groups = refl;
+    stops = refl;
+  }
+
+  proper : Proper (chain m n w)
+  proper = listed-proper zoneCount n m (at w) (p .some) (p .weights .total)
+
+  -- once no units are left, no more signal and none come
+  module _ (k : ℕ) (none : survival (chain m n w) k ≡ 0) where
+    nothing : sum n (inflow (chain m n w) (units (chain m n w) k)) + signalled (chain m n w) (units (chain m n w) k) ≡ 0
+    unfolding survival
+    nothing = omega (arith, step-conservation (chain m n w) proper (units (chain m n w) k), none)
+
+    none-pmf : pmf (chain m n w) (suc k) ≡ 0
+    unfolding pmf
+    none-pmf = omega (arith, nothing)
+
+    none-survival : survival (chain m n w) (suc k) ≡ 0
+    unfolding survival units
+    none-survival =
+        sum-none n (λ t. inflow (chain m n w) (units (chain m n w) k) t / weightTotal)
+        (λ t l. omega (arith, nothing, sum-term n t (inflow (chain m n w) (units (chain m n w) k)) l))
+
   pub run-start : Running m n w 0 ps ss (unitsPerOne ∷ replicate (maxStates - 1) 0) ps ss unitsPerOne 0 0
   unfolding units survival restrictedMean
   run-start = record {
     same = refl;
-    units-now = λ t l. units-start (maxStates - 1) t;
+    units-now = λ o t l. units-start (maxStates - 1) t;
     pmf-list = front-none _ ps;
     survival-list = front-none _ ss;
     survival-last = sym (sum-pick n 0 unitsPerOne (p .some));
@@ -101,51 +99,115 @@ module _ {m : List ℕ} {n : ℕ} {w : List ℕ} {h : ℕ} {ps ss : List ℕ} (p
     part = omega arith;
   }
 
-  module _ {k : ℕ} {us ps′ ss′ : List ℕ} {last whole fraction : ℕ} (s : Running m n w k ps ss us ps′ ss′ last whole fraction) where
-    surviving : sum n (at us) ≡ last
-    unfolding survival
-    surviving = sum-cong n (at us) (units (chain m n w) k) (s .units-now) ∙ sym (s .survival-last)
+  module _ {k : ℕ} {us ps′ ss′ : List ℕ} {last whole fraction : ℕ} (s : Running m n w k ps ss us ps′ ss′ last whole fraction)
+      {src fs ws gs st : List ℕ} (g : Listed m n w src fs ws gs st) where
+    -- while units are left
+    module _ (o : 0 < last) where
+      all : sum n (at us) ≡ last
+      unfolding survival
+      all = sum-cong n (at us) (units (chain m n w) k) (s .units-now o) ∙ sym (s .survival-last)
 
-    module _ {tg sh ct : List ℕ} (g : Grouped m n w n tg sh ct) where
-      pub run-row : {hi lo : List ℕ} → length hi ≡ maxStates + 1 → length lo ≡ maxStates + 1 → CanRow tg sh ct us last n hi lo
-      run-row x y = record {
-        push = record {
-          edges = edges-of g (p .weights);
-          states = omega (arith, s .same, p .moves .most);
-          most = omega (arith, surviving, s .last-most);
-          his = omega (arith, p .moves .most);
-          los = omega (arith, p .moves .most);
-        };
-        all = sym surviving;
+      comes : (t : ℕ) → t < n → come src fs ws gs (at us) t ≡ inflow (chain m n w) (units (chain m n w) k) t
+      comes t l = g .sums t l (at us) ∙ inflow-cong (chain m n w) (at us) (units (chain m n w) k) (s .units-now o) t
+
+      -- what comes into no state signals
+      conserved : sum n (come src fs ws gs (at us)) + signalled (chain m n w) (units (chain m n w) k) ≡ last * weightTotal
+      unfolding survival
+      conserved = omega (
+        arith,
+        sum-cong n (come src fs ws gs (at us)) (inflow (chain m n w) (units (chain m n w) k)) comes,
+        step-conservation (chain m n w) proper (units (chain m n w) k),
+        s .survival-last,
+      )
+
+      flows : Flows us src fs ws gs n
+      flows = record {
+        inside = record { inside = λ i. omega (arith, g .shape .groups .inside .inside i, s .same, p .moves .most) };
+        light = g .shape .groups .light;
+        order = g .shape .groups .ordered;
+        within = g .shape .groups .within;
+        firsts = g .shape .groups .firsts;
+        shares = g .shape .groups .shares;
+        each = λ i l. omega (arith, g .shape .groups .each i l (at us), all, s .last-most);
+        room = g .shape .room;
+        rise = g .shape .ordered;
+        few = g .shape .few;
+        mass = omega (arith, conserved, s .last-most);
+        size = p .moves .most;
       }
 
-      module _ {us′ : List ℕ} {a b : ℕ} (r : Rowed tg sh ct n us us′ a b) where
-        next : (t : ℕ) → t < n → flow tg sh ct (at us) n t / weightTotal ≡ units (chain m n w) (k + 1) t
+      run-row : {nx : List ℕ} → length nx ≡ maxStates → CanRow src fs ws gs st us last n nx
+      run-row x = record {
+        flows = flows;
+        stops = g .stops;
+        most = s .last-most;
+        mass = omega (arith, conserved);
+        room = omega (arith, p .moves .most);
+      }
+
+      module _ {nx : List ℕ} {a b : ℕ} (r : Rowed src fs ws gs us last n nx a b) where
+        next : (t : ℕ) → t < n → come src fs ws gs (at us) t / weightTotal ≡ units (chain m n w) (suc k) t
         unfolding units
-        next t l = rw add-one (ap (λ (x : ℕ). x / weightTotal) (flow-inflow g (at us) (units (chain m n w) k) (s .units-now) t l))
+        next t l = ap (λ (x : ℕ). x / weightTotal) (comes t l)
 
-        next-pmf : a ≡ pmf (chain m n w) (suc k)
+        some-pmf : a ≡ pmf (chain m n w) (suc k)
         unfolding pmf
-        next-pmf = r .pmf ∙ ap (λ (x : ℕ). x / weightTotal) (flow-signalled g (at us) (units (chain m n w) k) (s .units-now))
+        some-pmf = r .pmf ∙ ap (λ (x : ℕ). x / weightTotal) (omega (arith, conserved))
 
-        next-survival : b ≡ survival (chain m n w) (k + 1)
+        some-survival : b ≡ survival (chain m n w) (suc k)
         unfolding survival
-        next-survival = r .survival ∙ sum-cong n (λ t. flow tg sh ct (at us) n t / weightTotal) (units (chain m n w) (k + 1)) next
+        some-survival = r .survival ∙ sum-cong n (λ t. come src fs ws gs (at us) t / weightTotal) (units (chain m n w) (suc k)) next
 
-        pub run-more : {whole′ fraction′ : ℕ} → k < h → Meant whole fraction last whole′ fraction′
-            → Running m n w (k + 1) ps ss us′ (set ps′ k a) (set ss′ k b) b whole′ fraction′
-        unfolding restrictedMean
-        run-more {whole′} {fraction′} l q = record {
-          same = r .same ∙ s .same;
-          units-now = λ t i. r .units t i ∙ next t i;
-          pmf-list = front-more k _ ps ps′ a (omega (arith, p .pmf-room)) (s .pmf-list) next-pmf;
-          survival-list = front-more k _ ss ss′ b (omega (arith, p .survival-room)) (s .survival-list) (rw add-one at next-survival);
-          survival-last = next-survival;
-          last-most = r .most;
-          mean = omega (arith, q .value, s .mean, s .survival-last, sum-more k (survival (chain m n w)));
-          mean-most = omega (arith, q .value, q .part, s .part, s .last-most, s .mean-most);
-          part = q .part;
-        }
+    pub run-point : {nx : List ℕ} → length nx ≡ maxStates → CanPoint src fs ws gs st us last n nx
+    run-point x = record { some = λ o. run-row o x }
+
+    module _ {nx₀ nx : List ℕ} {a b : ℕ} (r : Pointed src fs ws gs us last n nx₀ nx a b) where
+      next-pmf : a ≡ pmf (chain m n w) (suc k)
+      next-pmf = elim (ℕ-discrete last 0) [
+        | yes e ↦ r .none-pmf e ∙ sym (none-pmf k (sym (s .survival-last) ∙ e))
+        | no e ↦ some-pmf (omega arith) (r .some (omega arith))
+      ]
+
+      next-survival : b ≡ survival (chain m n w) (suc k)
+      next-survival = elim (ℕ-discrete last 0) [
+        | yes e ↦ r .none-survival e ∙ sym (none-survival k (sym (s .survival-last) ∙ e))
+        | no e ↦ some-survival (omega arith) (r .some (omega arith))
+      ]
+
+      next-units : 0 < b → (t : ℕ) → t < n → getD nx t 0 ≡ units (chain m n w) (suc k) t
+      next-units o t l = elim (ℕ-discrete last 0) [
+        | yes e ↦ absurd (omega (arith, r .none-survival e))
+        | no e ↦ r .some (omega arith) .units t l ∙ next (omega arith) (r .some (omega arith)) t l
+      ]
+
+      next-most : b ≤ unitsPerOne
+      next-most = elim (ℕ-discrete last 0) [
+        | yes e ↦ omega (arith, r .none-survival e)
+        | no e ↦ r .some (omega arith) .most
+      ]
+
+      pub run-mean : k ≤ h → CanMean last whole fraction b
+      run-mean l = record { fits = omega (arith, s .mean-most, p .rows); part = s .part; most = s .last-most; next-most = next-most }
+
+      pub run-more : {ps″ ss″ : List ℕ} {last′ whole′ fraction′ : ℕ} → k < h → length nx₀ ≡ maxStates → Put a b k ps′ ss′ ps″ ss″
+          → Meant last whole fraction b last′ whole′ fraction′ → Running m n w (k + 1) ps ss nx ps″ ss″ last′ whole′ fraction′
+      unfolding restrictedMean
+      run-more l x d q = rw (d .pmf, d .survival, q .left) (record {
+        same = r .same ∙ x;
+        units-now = λ o t i. rw add-one (next-units o t i);
+        pmf-list = front-more k _ ps ps′ a (omega (arith, p .pmf-room)) (s .pmf-list) next-pmf;
+        survival-list = front-more k _ ss ss′ b (omega (arith, p .survival-room)) (s .survival-list) next-survival;
+        survival-last = rw add-one next-survival;
+        last-most = next-most;
+        mean = omega (arith, q .value, s .mean, s .survival-last, sum-more k (survival (chain m n w)));
+        mean-most = omega (arith, q .value, q .part, s .part, s .last-most, s .mean-most);
+        part = q .part;
+      })
+
+  -- two rows more
+  pub run-two : (k : ℕ) {us ps′ ss′ : List ℕ} {last whole fraction : ℕ} → Running m n w (k + 1 + 1) ps ss us ps′ ss′ last whole fraction
+      → Running m n w (k + 2) ps ss us ps′ ss′ last whole fraction
+  run-two k s = let e : k + 1 + 1 ≡ k + 2 = omega arith in rw e at s
 
   pub run-done : {k : ℕ} {us ps′ ss′ : List ℕ} {last whole fraction : ℕ} → k ≡ h → Running m n w k ps ss us ps′ ss′ last whole fraction
       → Ran m n w h ps ss ps′ ss′ last whole fraction

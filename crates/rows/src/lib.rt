@@ -1,8 +1,5 @@
 // The rows of the run-length table of a chain of states, to the last unit.
-mod edges;
-mod flow;
 mod rows;
-mod words;
 
 pub use rows::Totals;
 pub use rows::run_rows;

@@ -1,11 +1,14 @@
 // The rows of the table of a chain given by its moves.
+ghost use Prim.Native.Nat.{_<_};
+ghost use lib.ListN.{length};
 ghost use Rattle.rows.specs.Rows.{CanRun, Ran};
-ghost use Rattle.rows.specs.Running.{CanMean, Meant};
-use crate::edges::group;
-use crate::flow::row;
+ghost use Rattle.rows.specs.Running.{CanMean, Meant, Put};
+use row::Point;
+use row::next_point;
 use rules::RuleList;
 use rules::ZONES;
 use runlength::UNITS_PER_ONE;
+use sources::list_sources;
 
 // What the rows leave besides the two lists: the survival at the horizon, and the restricted mean as whole points and units.
 pub struct Totals {
@@ -14,22 +17,26 @@ pub struct Totals {
     pub mean_fraction: u64,
 }
 
-// A sum of survivals: whole * 2^60 + fraction units.
-struct Mean {
-    whole: u64,
-    fraction: u64,
+// The totals after one row more, which leaves `survival`: the one before is added to the restricted mean.
+fn totals_with(before: Totals, survival: u64) -> Totals
+    requires { ⌜ CanMean (before .survival) (before .«mean_whole») (before .«mean_fraction») survival ⌝ }
+    ensures { λ r. ⌜ Meant (before .survival) (before .«mean_whole») (before .«mean_fraction») survival (r .survival) (r .«mean_whole») (r .«mean_fraction») ⌝ }
+{
+    let sum = before.mean_fraction + before.survival;
+    Totals {
+        survival: survival,
+        mean_whole: before.mean_whole + sum / UNITS_PER_ONE,
+        mean_fraction: sum % UNITS_PER_ONE,
+    }
 }
 
-// The restricted mean with one row's survival more.
-fn mean_with(mean: Mean, survival: u64) -> Mean
-    requires { ⌜ CanMean (mean .whole) (mean .fraction) survival ⌝ }
-    ensures { λ r. ⌜ Meant (mean .whole) (mean .fraction) survival (r .whole) (r .fraction) ⌝ }
+// A point at place k of the two lists.
+fn put(point: Point, k: usize, pmf: &mut [u64], survival: &mut [u64])
+    requires { ⌜ (k < length (now pmf)) × (k < length (now survival)) ⌝ }
+    ensures { λ r. ⌜ Put (point .pmf) (point .survival) k (now (pmf .entry)) (now (survival .entry)) (now (pmf .exit)) (now (survival .exit)) ⌝ }
 {
-    let sum = mean.fraction + survival;
-    Mean {
-        whole: mean.whole + sum / UNITS_PER_ONE,
-        fraction: sum % UNITS_PER_ONE,
-    }
+    pmf[k] = point.pmf;
+    survival[k] = point.survival;
 }
 
 // The rows 1 to `horizon` of the table of the chain that `moves` gives: n states, state i by zone z at ZONES * i + z, and any
@@ -45,41 +52,75 @@ pub fn run_rows(
     requires { ⌜ CanRun (now moves) n (now weights) horizon (now pmf) (now survival) ⌝ }
     ensures { λ r. ⌜ Ran (now (moves .entry)) n (now (weights .entry)) horizon (now (pmf .entry)) (now (survival .entry)) (now (pmf .exit)) (now (survival .exit)) (r .survival) (r .«mean_whole») (r .«mean_fraction») ⌝ }
 {
-    let mut targets = [0u16; ZONES * RuleList::MAX_STATES];
+    let mut sources = [0u16; ZONES * RuleList::MAX_STATES];
+    let mut firsts = [0u16; ZONES * RuleList::MAX_STATES + 1];
     let mut shares = [0u32; ZONES * RuleList::MAX_STATES];
-    let mut counts = [0usize; RuleList::MAX_STATES];
-    group(moves, n, weights, &mut targets, &mut shares, &mut counts);
+    let mut groups = [0u16; RuleList::MAX_STATES + 1];
+    let mut stops = [0u16; RuleList::MAX_STATES + 1];
+    list_sources(
+        moves,
+        n,
+        weights,
+        &mut sources,
+        &mut firsts,
+        &mut shares,
+        &mut groups,
+        &mut stops,
+    );
     let mut units = [0u64; RuleList::MAX_STATES];
-    let mut hi = [0u64; RuleList::MAX_STATES + 1];
-    let mut lo = [0u64; RuleList::MAX_STATES + 1];
+    let mut others = [0u64; RuleList::MAX_STATES];
     units[0] = UNITS_PER_ONE;
-    let mut last = UNITS_PER_ONE;
-    let mut mean = Mean {
-        whole: 0,
-        fraction: 0,
+    let mut totals = Totals {
+        survival: UNITS_PER_ONE,
+        mean_whole: 0,
+        mean_fraction: 0,
     };
+    // Two rows a turn: the first from the units to the others, the second back.
     let mut k: usize = 0;
-    while k < horizon {
-        let point = row(
-            &targets,
+    while k + 1 < horizon {
+        let odd = next_point(
+            &sources,
+            &firsts,
             &shares,
-            &counts,
-            &mut units,
-            last,
+            &groups,
+            &stops,
+            &units,
+            totals.survival,
             n,
-            &mut hi,
-            &mut lo,
+            &mut others,
         );
-        let next = point.survival;
-        mean = mean_with(mean, last);
-        last = next;
-        pmf[k] = point.pmf;
-        survival[k] = next;
-        k += 1;
+        let half = totals_with(totals, odd.survival);
+        put(odd, k, pmf, survival);
+        let even = next_point(
+            &sources,
+            &firsts,
+            &shares,
+            &groups,
+            &stops,
+            &others,
+            half.survival,
+            n,
+            &mut units,
+        );
+        totals = totals_with(half, even.survival);
+        put(even, k + 1, pmf, survival);
+        k += 2;
     }
-    Totals {
-        survival: last,
-        mean_whole: mean.whole,
-        mean_fraction: mean.fraction,
+    if k < horizon {
+        let last = next_point(
+            &sources,
+            &firsts,
+            &shares,
+            &groups,
+            &stops,
+            &units,
+            totals.survival,
+            n,
+            &mut others,
+        );
+        let all = totals_with(totals, last.survival);
+        put(last, k, pmf, survival);
+        return all;
     }
+    totals
 }

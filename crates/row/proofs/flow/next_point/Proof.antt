@@ -1,0 +1,20 @@
+-- `flow::next_point` meets its contract.
+use native.Mathlib.Omega.{arith}
+use borrow.Author.Needs.{needs}
+use Rattle.row.proofs.flow.next_point.Statement.{statement}
+use Rattle.row.proofs.flow.next_point.Tie as tie
+
+returns : tie.Need-returns
+returns c = search needs
+
+row-requires : tie.Need-row-requires
+row-requires c κs = c .before .before .before .before .before .before .before .before .before .pre .some (omega arith)
+
+same-length : tie.Need-same-length
+same-length c = search needs
+
+returns-2 : tie.Need-returns-2
+returns-2 c = search needs
+
+pub next-point-spec : {M : Type 1} → statement M
+next-point-spec = tie.close (tie.spec returns row-requires same-length returns-2)

@@ -1,0 +1,14 @@
+-- The definitions and laws of the sources.
+pub mod MoreLaws
+pub mod Sources
+pub mod Marks
+pub mod MarksLaws
+pub mod Grouping
+pub mod SourcesLaws
+pub mod GroupingLaws
+pub mod ListLaws
+pub mod Stops
+pub mod StopsLaws
+pub mod Alike
+pub mod AlikeLaws
+pub mod ListSourcesLaws
