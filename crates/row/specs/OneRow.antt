@@ -49,7 +49,7 @@ pub record Rowed (src fs ws gs us : List ℕ) (total n : ℕ) (nx : List ℕ) (p
   pub survival : l ≡ sum n (λ t. come src fs ws gs (at us) t / weightTotal)
   pub most : l ≤ unitsPerOne
 
--- where units are left
+-- asked only where units are left
 pub record CanPoint (src fs ws gs st us : List ℕ) (total n : ℕ) (nx : List ℕ) : Type 0 where
   pub some : 0 < total → CanRow src fs ws gs st us total n nx
 
@@ -58,3 +58,4 @@ pub record Pointed (src fs ws gs us : List ℕ) (total n : ℕ) (nx nx′ : List
   pub some : 0 < total → Rowed src fs ws gs us total n nx′ p l
   pub none-pmf : total ≡ 0 → p ≡ 0
   pub none-survival : total ≡ 0 → l ≡ 0
+  pub none-written : total ≡ 0 → nx′ ≡ nx

@@ -12,7 +12,7 @@ use Rattle.runlength.specs.Scale.{weightTotal}
 use Rattle.sources.specs.Sources.{come}
 use Rattle.row.specs.Arrivals.{Flows, Arrived}
 use Rattle.row.specs.ArrivalsLaws.{flows-upto}
-use Rattle.row.specs.OneRow.{CanRound, Rounded, Filled, CanFill, CanRow, Rowed}
+use Rattle.row.specs.OneRow.{CanRound, Rounded, Filled, CanFill, CanRow, Rowed, Pointed}
 
 pub fill-start : (us src fs ws gs nx : List ℕ) → Filled us src fs ws gs 0 nx 0 0
 fill-start us src fs ws gs nx = record {
@@ -87,3 +87,13 @@ module _ {src fs ws gs st us : List ℕ} {total n : ℕ} {nx : List ℕ} (p : Ca
       survival = c .total;
       most = omega (arith, row-fits, p .most);
     }
+
+pub point-some : {src fs ws gs us : List ℕ} {total n : ℕ} {nx nx′ : List ℕ} {a b : ℕ} → (total ≡ 0 → ⊥) → length nx′ ≡ length nx
+    → Rowed src fs ws gs us total n nx′ a b → Pointed src fs ws gs us total n nx nx′ a b
+point-some e x r = record {
+  same = x;
+  some = λ o. r;
+  none-pmf = λ o. absurd (e o);
+  none-survival = λ o. absurd (e o);
+  none-written = λ o. absurd (e o);
+}

@@ -1,5 +1,6 @@
 -- `flow::next_point` meets its contract.
 use native.Mathlib.Omega.{arith}
+use Rattle.row.specs.OneRowLaws.{point-some}
 use borrow.Author.Needs.{needs}
 use Rattle.row.proofs.flow.next_point.Statement.{statement}
 use Rattle.row.proofs.flow.next_point.Tie as tie
@@ -14,7 +15,7 @@ same-length : tie.Need-same-length
 same-length c = search needs
 
 returns-2 : tie.Need-returns-2
-returns-2 c = search needs
+returns-2 c = search (needs, point-some)
 
 pub next-point-spec : {M : Type 1} → statement M
 next-point-spec = tie.close (tie.spec returns row-requires same-length returns-2)
