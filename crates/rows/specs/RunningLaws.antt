@@ -25,19 +25,12 @@ use Rattle.row.specs.Arrivals.{Flows}
 use Rattle.row.specs.OneRow.{CanRow, Rowed, CanPoint, Pointed}
 use Rattle.rows.specs.Running.{Running, CanMean, Meant, Put}
 
--- what comes in and what signals go by the units of the states alone
-module _ (c : Chain) (u v : ℕ → ℕ) (e : (s : ℕ) → s < c .size → u s ≡ v s) where
-  inflow-cong : (t : ℕ) → inflow c u t ≡ inflow c v t
-  unfolding inflow
-  inflow-cong t =
-      sum-cong (c .size) _ _
-      (λ s l. ap (λ (x : ℕ). sum (c .automaton .zones) (λ z. after (c .automaton .move s z) 0 (λ r. only (eqb r t) (x * c .weight z)))) (e s l))
-
-  signalled-cong : signalled c u ≡ signalled c v
-  unfolding signalled
-  signalled-cong =
-      sum-cong (c .size) _ _
-      (λ s l. ap (λ (x : ℕ). sum (c .automaton .zones) (λ z. after (c .automaton .move s z) (x * c .weight z) (λ r. 0))) (e s l))
+-- what comes in goes by the units of the states alone
+inflow-cong : (c : Chain) (u v : ℕ → ℕ) → ((s : ℕ) → s < c .size → u s ≡ v s) → (t : ℕ) → inflow c u t ≡ inflow c v t
+unfolding inflow
+inflow-cong c u v e t =
+    sum-cong (c .size) _ _
+    (λ s l. ap (λ (x : ℕ). sum (c .automaton .zones) (λ z. after (c .automaton .move s z) 0 (λ r. only (eqb r t) (x * c .weight z)))) (e s l))
 
 pub put-pmf : {p l k : ℕ} {ps ss ps′ ss′ : List ℕ} → Put p l k ps ss ps′ ss′ → length ps′ ≡ length ps
 put-pmf {p} {l} {k} {ps} d = ap length (d .pmf) ∙ length-set ps k p

@@ -151,10 +151,6 @@ module _ (m : List ℕ) (n t : ℕ) where
   unfolding counted
   counted-upto y z h = sum-upto y z _ h
 
-  counted-zero : counted m n t 0 ≡ 0
-  unfolding counted
-  counted-zero = sum-zero _
-
   into-zero : (w : List ℕ) (u : ℕ → ℕ) → into m n w u t 0 ≡ 0
   unfolding into
   into-zero w u = sum-zero _
