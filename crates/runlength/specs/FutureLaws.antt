@@ -1,11 +1,13 @@
 -- Laws of equal futures: how to show one, that it is an equivalence, and that it gives equal exact distributions.
 use mathlib.Core.Path.{_≡_, refl, sym, ap, _∙_}
+use mathlib.Core.Bool.{true, false}
 use mathlib.Core.List.{List, [], _∷_}
-use Prim.Native.Nat.{ℕ, _*_}
+use Prim.Native.Nat.{ℕ, suc, _*_, _<_}
+use native.Mathlib.Omega.{arith}
 use Rattle.runlength.specs.Sum.{only, sumSequences}
 use Rattle.runlength.specs.Sequence.{AllBelow}
 use Rattle.runlength.specs.SequenceLaws.{sequences-cong}
-use Rattle.runlength.specs.Automaton.{Automaton, Move, quiet, signal, product, signals, runLength, exactCdf, exactRestrictedMean}
+use Rattle.runlength.specs.Automaton.{Automaton, Move, quiet, signal, after, product, signals, runLength, exactCdf, exactRestrictedMean}
 use Rattle.runlength.specs.Future.{Alike, EqualFuture, Simulation}
 
 -- equal futures, the other way round
@@ -60,6 +62,22 @@ module _ {A B : Type 0} (a : Automaton A) (b : Automaton B) where
       same-signals = λ q i. simulation-signals q i s t r;
       same-runLength = λ q i. simulation-runLength q i s t r;
     }
+
+  -- one point on, both signal, or both go on to states with equal futures
+  pub future-step : {s : A} {t : B} → EqualFuture a b s t → (z : ℕ) → z < a .zones → Alike (EqualFuture a b) (a .move s z) (b .move t z)
+  unfolding signals runLength AllBelow Alike
+  future-step {s} {t} e z i =
+      each (a .move s z) (b .move t z) (λ q j. e .same-signals (z ∷ q) (i, j)) (λ q j. e .same-runLength (z ∷ q) (i, j))
+    where
+      each : (m : Move A) (k : Move B)
+          → ((q : List ℕ) → AllBelow (a .zones) q → after m true (λ x. signals a x q) ≡ after k true (λ y. signals b y q))
+          → ((q : List ℕ) → AllBelow (a .zones) q → suc (after m 0 (λ x. runLength a x q)) ≡ suc (after k 0 (λ y. runLength b y q)))
+          → Alike (EqualFuture a b) m k
+      each (quiet x) (quiet y) f g =
+          record { same-zones = e .same-zones; same-signals = f; same-runLength = λ q j. omega (arith, g q j) }
+      each (quiet x) signal f g = let o : false ≡ true = f [] tt in absurd (let n : _≡_ {A = ℕ} 0 1 = cc in omega arith)
+      each signal (quiet y) f g = let o : true ≡ false = f [] tt in absurd (let n : _≡_ {A = ℕ} 0 1 = cc in omega arith)
+      each signal signal f g = tt
 
   module _ (e : EqualFuture a b (a .start) (b .start)) (weight : ℕ → ℕ) where
     -- equal futures of the starts, equal cdfs

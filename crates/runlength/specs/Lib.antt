@@ -18,6 +18,15 @@ pub mod MeanLaws
 pub mod RestrictedMean
 pub mod Future
 pub mod FutureLaws
+pub mod Alike
+pub mod AlikeLaws
+pub mod Lowest
+pub mod LowestLaws
+pub mod Merged
+pub mod ClassLaws
+pub mod Fewest
+pub mod FewestLaws
+pub mod MergedLaws
 pub mod Percentile
 pub mod PercentileLaws
 pub mod PercentBounds

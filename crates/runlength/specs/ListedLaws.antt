@@ -13,7 +13,7 @@ use Rattle.runlength.specs.Chain.{Proper}
 use Rattle.runlength.specs.Listed.{entryMove, listedChain}
 
 -- the state that an entry leads to is one of the n states
-entry-in : (n x t : ℕ) → entryMove n x ≡ quiet t → t < n
+pub entry-in : (n x t : ℕ) → entryMove n x ≡ quiet t → t < n
 entry-in n x t e = go (ltb x n) (ltb→lt x n) e
   where
     go : (b : Bool) → (T b → x < n) → cond {A = Move ℕ} b (quiet x) signal ≡ quiet t → t < n

@@ -31,6 +31,18 @@ unfolding sum
 sum-le zero f g h = omega arith
 sum-le (suc n) f g h = omega (arith, sum-le n f g (λ k l. h k (omega arith)), h n (omega arith))
 
+-- smaller terms and no smaller sum: the terms are equal
+pub sum-tight : (n : ℕ) (f g : ℕ → ℕ) → ((k : ℕ) → k < n → f k ≤ g k) → sum n g ≤ sum n f → (k : ℕ) → k < n → g k ≤ f k
+unfolding sum
+sum-tight zero f g h e k l = absurd (omega arith)
+sum-tight (suc n) f g h e k l =
+    let below = sum-le n f g (λ i j. h i (omega arith)) in
+    let last = h n (omega arith) in
+    ⊎-elim
+    (λ (q : k ≡ n). rw q (omega arith))
+    (λ (i : k < n). sum-tight n f g (λ i j. h i (omega arith)) (omega arith) k i)
+    (eq-or-lt-of-le (le-of-suc-le-suc l))
+
 -- fewer terms, a smaller sum
 pub sum-mono : (m k : ℕ) (f : ℕ → ℕ) → sum m f ≤ sum (m + k) f
 unfolding sum

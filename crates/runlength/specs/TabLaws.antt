@@ -1,11 +1,11 @@
 -- Laws of lists that are given by a function of the index, and of a loop that writes one from the front.
 use mathlib.Core.Path.{_≡_, refl, sym, _∙_}
 use mathlib.Core.List.{List, [], _∷_, _++_}
-use Prim.Native.Nat.{ℕ, zero, suc, _+_, _<_}
+use Prim.Native.Nat.{ℕ, zero, suc, _+_, _≤_, _<_}
 use native.Mathlib.Omega.{arith}
 use native.Mathlib.Numerals.{add-one}
 use native.Mathlib.Decide.{decLt}
-use lib.ListN.{length, getD, set, drop, length-append, List·getD-append}
+use lib.ListN.{length, getD, set, drop, length-append, length-drop, List·getD-append}
 use lib.Seq.{drop-cons, set-at, append-snoc, getD-at, ext-getD}
 use Rattle.runlength.specs.Sum.{tab, front}
 
@@ -31,6 +31,15 @@ tab-cong n f g e =
 pub front-none : (f : ℕ → ℕ) (d : List ℕ) → d ≡ front 0 f d
 unfolding tab front
 front-none f d = refl
+
+-- a list keeps its length, and holds what was written
+pub front-length : (h : ℕ) (f : ℕ → ℕ) (d : List ℕ) → h ≤ length d → length (front h f d) ≡ length d
+unfolding front
+front-length h f d i = omega (arith, length-append (tab h f) (drop h d), length-tab h f, length-drop h d)
+
+pub front-at : (h : ℕ) (f : ℕ → ℕ) (d : List ℕ) (k : ℕ) → k < h → getD (front h f d) k 0 ≡ f k
+unfolding front
+front-at h f d k i = List·getD-append (tab h f) (drop h d) 0 k (omega (arith, length-tab h f)) ∙ getD-tab h f k i
 
 -- one place more is written
 pub front-more : (n : ℕ) (f : ℕ → ℕ) (d e : List ℕ) (v : ℕ) → n < length d → e ≡ front n f d → v ≡ f n → set e n v ≡ front (n + 1) f d

@@ -5,7 +5,7 @@ use Prim.Native.Nat.{ℕ, suc, _*_, _≤_, _<_}
 use native.Mathlib.Nat.{div-add-mod'}
 use native.Mathlib.Omega.{arith}
 use lib.Dec.{leb}
-use lib.ListN.{length, take, drop, length-append, length-drop, List·getD-append}
+use lib.ListN.{length, take, drop}
 use lib.Seq.{take-at}
 use borrow.Author.Tests.{leb-true}
 use Rattle.rules.specs.declared.Checked.{Checked}
@@ -15,7 +15,7 @@ use Rattle.rules.specs.CheckLaws.{both}
 use Rattle.runlength.specs.Scale.{unitsPerOne}
 use Rattle.runlength.specs.Sum.{at, sum, tab, front}
 use Rattle.runlength.specs.SumLaws.{sum-cong, sum-le, sum-const}
-use Rattle.runlength.specs.TabLaws.{length-tab, getD-tab}
+use Rattle.runlength.specs.TabLaws.{length-tab, getD-tab, front-length, front-at}
 use Rattle.runlength.specs.Chain.{Chain, Proper, pmf, cdf, survival, restrictedMean, cdfOf}
 use Rattle.runlength.specs.Conservation.{mass-conservation}
 use Rattle.table.specs.declared.TableFigures.{TableFigures}
@@ -32,14 +32,6 @@ use Rattle.table.specs.ChartLaws.{passed, accepted-chart}
 take-front : (h : ℕ) (f : ℕ → ℕ) (d : List ℕ) → take h (front h f d) ≡ tab h f
 unfolding front
 take-front h f d = take-at (tab h f) (drop h d) h (length-tab h f)
-
-front-length : (h : ℕ) (f : ℕ → ℕ) (d : List ℕ) → h ≤ length d → length (front h f d) ≡ length d
-unfolding front
-front-length h f d i = omega (arith, length-append (tab h f) (drop h d), length-tab h f, length-drop h d)
-
-front-at : (h : ℕ) (f : ℕ → ℕ) (d : List ℕ) (k : ℕ) → k < h → at (front h f d) k ≡ f k
-unfolding front
-front-at h f d k i = List·getD-append (tab h f) (drop h d) 0 k (omega (arith, length-tab h f)) ∙ getD-tab h f k i
 
 -- ---- the chain's figures are in bounds
 

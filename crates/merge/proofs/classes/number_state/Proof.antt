@@ -1,0 +1,89 @@
+-- `classes::number_state` meets its contract: a class of its own, or its leader's.
+use mathlib.Core.Path.{refl, sym, _∙_}
+use native.Mathlib.Omega.{arith}
+use lib.ListN.{getD, length-set}
+use Rattle.merge.specs.NumberingLaws.{count-fits, number-first, number-other}
+use borrow.Author.Needs.{needs}
+use Rattle.merge.proofs.classes.number_state.Statement.{statement}
+use Rattle.merge.proofs.classes.number_state.Tie as tie
+
+mul-index : tie.Need-mul-index
+mul-index c = record { fits = omega (arith, c .before .before .before .pre .few) }
+
+shared-slice-read-index : tie.Need-shared-slice-read-index
+shared-slice-read-index c = c .before .before .before .before .pre .leaders-room
+
+index-requires : tie.Need-index-requires
+index-requires c κs = tt
+
+cast-firsts : tie.Need-cast-firsts
+cast-firsts c = record { fits = omega (arith, c .before .before .before .before .before .before .pre .few) }
+
+mul-firsts : tie.Need-mul-firsts
+mul-firsts c = record { fits = omega (arith, c .before .before .before .before .before .before .pre .few, count-fits (c .before .before .before .before .before .before .pre)) }
+
+slice-write-firsts : tie.Need-slice-write-firsts
+slice-write-firsts c = omega (arith, c .before .before .before .before .before .before .pre .firsts-room, count-fits (c .before .before .before .before .before .before .pre))
+
+cast-classes : tie.Need-cast-classes
+cast-classes c = record { fits = omega (arith, c .before .before .before .before .before .before .pre .few, count-fits (c .before .before .before .before .before .before .pre)) }
+
+mul-classes : tie.Need-mul-classes
+mul-classes c = record { fits = omega (arith, c .before .before .before .before .before .before .pre .few) }
+
+slice-write-classes : tie.Need-slice-write-classes
+slice-write-classes c = c .before .before .before .before .before .before .pre .classes-room
+
+add-result : tie.Need-add-result
+add-result c = record { fits = omega (arith, c .before .before .before .before .before .before .pre .few, count-fits (c .before .before .before .before .before .before .pre)) }
+
+same-length : tie.Need-same-length
+same-length c = let a = c .before .before .before .before .before .before .args in length-set (a .classes .now) (a .i) (a .count)
+
+same-length-2 : tie.Need-same-length-2
+same-length-2 c = let a = c .before .before .before .before .before .before .args in length-set (a .firsts .now) (a .count) (a .i)
+
+returns : tie.Need-returns
+returns c = let a = c .before .before .before .before .before .before .args in (number-first (c .before .before .before .before .before .before .pre) (sym (c .before .index .ensures) ∙ c .if1 .taken), (length-set (a .classes .now) (a .i) (a .count), length-set (a .firsts .now) (a .count) (a .i)))
+
+mul-classes-2 : tie.Need-mul-classes-2
+mul-classes-2 c = record { fits = omega (arith, c .before .index .ensures, c .before .before .before .before .before .before .pre .led .most, c .before .before .before .before .before .before .pre .few) }
+
+slice-read-classes : tie.Need-slice-read-classes
+slice-read-classes c = omega (arith, c .before .before .index .ensures, c .before .before .before .before .before .before .before .pre .led .most, c .before .before .before .before .before .before .before .pre .classes-room)
+
+mul-classes-3 : tie.Need-mul-classes-3
+mul-classes-3 c = record { fits = omega (arith, c .before .before .before .before .before .before .before .pre .few) }
+
+slice-write-classes-2 : tie.Need-slice-write-classes-2
+slice-write-classes-2 c = c .before .before .before .before .before .before .before .pre .classes-room
+
+same-length-3 : tie.Need-same-length-3
+same-length-3 c = let a = c .before .before .before .before .before .before .before .args in length-set (a .classes .now) (a .i) (getD (a .classes .now) (c .before .before .index .result) 0)
+
+returns-2 : tie.Need-returns-2
+returns-2 c = let a = c .before .before .before .before .before .before .before .args in (rw (c .before .before .index .ensures) (number-other (c .before .before .before .before .before .before .before .pre) (λ e. c .before .if1 .left (c .before .before .index .ensures ∙ e))), (length-set (a .classes .now) (a .i) (getD (a .classes .now) (c .before .before .index .result) 0), refl))
+
+pub number-state-spec : {M : Type 1} → statement M
+number-state-spec =
+    tie.close
+    (tie.spec
+    mul-index
+    shared-slice-read-index
+    index-requires
+    cast-firsts
+    mul-firsts
+    slice-write-firsts
+    cast-classes
+    mul-classes
+    slice-write-classes
+    add-result
+    same-length
+    same-length-2
+    returns
+    mul-classes-2
+    slice-read-classes
+    mul-classes-3
+    slice-write-classes-2
+    same-length-3
+    returns-2)

@@ -1,0 +1,231 @@
+-- One state more is numbered; and numbered by their leaders, the classes are those of the merged chart. Laws.
+use Prim.Native.Nat.{ℕ, zero, suc, _+_, _*_, _/_, _%_, _≤_, _<_}
+use mathlib.Core.Path.{_≡_, refl, sym, ap, ap₂, _∙_}
+use mathlib.Core.Bool.{Bool, true, false, cond}
+use mathlib.Core.List.{List, _++_}
+use native.Mathlib.Omega.{arith}
+use native.Mathlib.Nat.{le-refl}
+use native.Mathlib.Decide.{decLt}
+use borrow.Author.Tests.{eq-eqb, ne-eqb, lt-ltb, le-ltb}
+use lib.Dec.{eqb, ltb}
+use lib.ListN.{length, set, drop, replicate, length-replicate, getD-replicate}
+use lib.Seq.{getD-set-same, getD-set-other}
+use Rattle.rules.specs.Bounds.{zoneCount, maxStates}
+use Rattle.runlength.specs.Sum.{at, sum, only, tab, front}
+use Rattle.runlength.specs.SumLaws.{sum-cong, sum-more, sum-upto, sum-le, sum-const}
+use Rattle.runlength.specs.TabLaws.{tab-cong}
+use Rattle.runlength.specs.Automaton.{Move, quiet, signal, after}
+use Rattle.runlength.specs.Listed.{entryMove}
+use Rattle.runlength.specs.Merged.{leaderFor, leadersFor, classCount, classOf, firstOf, mergedMove}
+use Rattle.runlength.specs.ClassLaws.{leader-most, leader-leads}
+use Rattle.runlength.specs.MergedLaws.{class-leads, count-most, FirstOf, first-of}
+use Rattle.merge.specs.Merge.{entryOf, givenChart, mergedCount, mergedMoves, Mergeable}
+use Rattle.merge.specs.Rounds.{labelOf, HasRoom, HoldsLeaders}
+use Rattle.merge.specs.RoundsLaws.{none-held}
+use Rattle.merge.specs.Numbering.{ledBefore, Led, Numbered, Numberable, CanNumber, carried, Carriable}
+
+-- ---- one state more
+
+module _ (l : List ℕ) where
+  led-one : (i : ℕ) → at l i ≡ i → ledBefore l (i + 1) ≡ ledBefore l i + 1
+  unfolding ledBefore
+  led-one i e =
+      let one : only (eqb (at l i) i) 1 ≡ 1 = ap (λ b. only b 1) (eq-eqb (at l i) i e) in
+      omega (arith, sum-more i (λ j. only (eqb (at l j) j) 1))
+
+  led-none : (i : ℕ) → (at l i ≡ i → ⊥) → ledBefore l (i + 1) ≡ ledBefore l i
+  unfolding ledBefore
+  led-none i e =
+      let none : only (eqb (at l i) i) 1 ≡ 0 = ap (λ b. only b 1) (ne-eqb (at l i) i e) in
+      omega (arith, sum-more i (λ j. only (eqb (at l j) j) 1))
+
+  led-less : (s i : ℕ) → at l s ≡ s → s < i → ledBefore l s < ledBefore l i
+  unfolding ledBefore
+  led-less s i e h = omega (arith, led-one s e, sum-upto (s + 1) i (λ j. only (eqb (at l j) j) 1) (omega arith))
+
+  pub led-most : (i : ℕ) → ledBefore l i ≤ i
+  unfolding ledBefore
+  led-most i = omega (arith, sum-le i (λ j. only (eqb (at l j) j) 1) (λ j. 1) (λ j h. one (eqb (at l j) j)), sum-const i 1)
+    where
+      one : (b : Bool) → only b 1 ≤ 1
+      one true = le-refl 1
+      one false = omega arith
+
+module _ {l classes firsts : List ℕ} {i count : ℕ} (p : CanNumber l classes firsts i count) where
+  pub count-fits : count ≤ i
+  count-fits = omega (arith, p .so-far .counted, led-most l i)
+
+  -- the first of a class
+  pub number-first : at l i ≡ i → Numbered l (set classes i count) (set firsts count i) (i + 1) (count + 1)
+  number-first e = record {
+    counted = omega (arith, p .so-far .counted, led-one l i e);
+    class-is = λ s h. class s h (decLt s i);
+    first-is = λ s h f. first s h f (decLt s i);
+  }
+    where
+      class : (s : ℕ) → s < i + 1 → Dec (s < i) → at (set classes i count) s ≡ ledBefore l (at l s)
+      class s h (yes k) = getD-set-other classes i s count 0 (omega arith) ∙ p .so-far .class-is s k
+      class s h (no k) =
+          let d : s ≡ i = omega arith in
+          rw d (getD-set-same classes i count 0 (p .classes-room) ∙ p .so-far .counted ∙ ap (ledBefore l) (sym e))
+
+      first : (s : ℕ) → s < i + 1 → at l s ≡ s → Dec (s < i) → at (set firsts count i) (ledBefore l s) ≡ s
+      first s h f (yes k) =
+          getD-set-other firsts count (ledBefore l s) i 0 (omega (arith, led-less l s i f k, p .so-far .counted)) ∙ p .so-far .first-is s k f
+      first s h f (no k) =
+          let d : s ≡ i = omega arith in
+          rw (d, sym (p .so-far .counted)) (getD-set-same firsts count i 0 (omega (arith, count-fits, p .firsts-room)))
+
+  -- another one
+  pub number-other : (at l i ≡ i → ⊥) → Numbered l (set classes i (at classes (at l i))) firsts (i + 1) count
+  number-other e = record {
+    counted = omega (arith, p .so-far .counted, led-none l i e);
+    class-is = λ s h. class s h (decLt s i);
+    first-is = λ s h f. first s h f (decLt s i);
+  }
+    where
+      before : at l i < i
+      before = omega (arith, p .led .most)
+
+      class : (s : ℕ) → s < i + 1 → Dec (s < i) → at (set classes i (at classes (at l i))) s ≡ ledBefore l (at l s)
+      class s h (yes k) = getD-set-other classes i s (at classes (at l i)) 0 (omega arith) ∙ p .so-far .class-is s k
+      class s h (no k) =
+          let d : s ≡ i = omega arith in
+          rw d
+          (getD-set-same classes i (at classes (at l i)) 0 (p .classes-room) ∙ p .so-far .class-is (at l i) before
+          ∙ ap (ledBefore l) (p .led .leads))
+
+      first : (s : ℕ) → s < i + 1 → at l s ≡ s → Dec (s < i) → at firsts (ledBefore l s) ≡ s
+      first s h f (yes k) = p .so-far .first-is s k f
+      first s h f (no k) = let d : s ≡ i = omega arith in absurd (e (rw d at f))
+
+-- ---- all states
+
+pub numbered-none : (l classes firsts : List ℕ) → Numbered l classes firsts 0 0
+unfolding ledBefore sum
+numbered-none l classes firsts =
+    record { counted = refl; class-is = λ s h. absurd (omega arith); first-is = λ s h e. absurd (omega arith) }
+
+module _ {n : ℕ} {l classes₀ firsts₀ classes firsts : List ℕ} {i count : ℕ} where
+  pub number-can : Numberable n l classes₀ firsts₀ → length classes ≡ length classes₀ → length firsts ≡ length firsts₀ → i < n
+      → Numbered l classes firsts i count → CanNumber l classes firsts i count
+  number-can p d e h q = record {
+    few = omega (arith, p .few);
+    led = p .led i h;
+    leaders-room = omega (arith, p .leaders-room);
+    classes-room = omega (arith, p .classes-room);
+    firsts-room = omega (arith, p .firsts-room);
+    so-far = q;
+  }
+
+pub numbered-all : {n : ℕ} {l classes firsts : List ℕ} {i count : ℕ} → Numbered l classes firsts i count → i ≡ n → Numbered l classes firsts n count
+numbered-all q e = rw e at q
+
+-- ---- an entry of the merged moves
+
+module _ {n : ℕ} {m classes firsts merged : List ℕ} {count : ℕ} (p : Carriable n m classes firsts merged count) (k : ℕ) (h : k < zoneCount * count) where
+  class-in : k / zoneCount < count
+  class-in = omega arith
+
+  pub carry-first : k / zoneCount < length firsts
+  carry-first = omega (arith, class-in, p .fewer, p .firsts-room)
+
+  pub carry-entry : zoneCount * at firsts (k / zoneCount) + k % zoneCount < zoneCount * n
+  carry-entry = omega (arith, p .first-below (k / zoneCount) class-in)
+
+-- ---- by the leaders of all continuations
+
+module _ {n : ℕ} {m l : List ℕ} (p : HoldsLeaders n m l n) where
+  pub leaders-led : (i : ℕ) → i < n → Led l i
+  leaders-led i h =
+      let most = leader-most (givenChart n m) n i in
+      record {
+        most = omega (arith, p .is i h);
+        leads = rw (p .is i h) (p .is (leaderFor (givenChart n m) n i) (omega arith) ∙ leader-leads (givenChart n m) n i);
+      }
+
+  led-leaders : (i : ℕ) → i ≤ n → ledBefore l i ≡ leadersFor (givenChart n m) n i
+  unfolding ledBefore leadersFor
+  led-leaders i h = sum-cong i _ _ (λ j k. ap (λ x. only (eqb x j) 1) (p .is j (omega arith)))
+
+  module _ {classes firsts : List ℕ} {count : ℕ} (q : Numbered l classes firsts n count) where
+    -- so many classes
+    pub numbered-count : count ≡ mergedCount n m
+    unfolding mergedCount classCount
+    numbered-count = q .counted ∙ led-leaders n (le-refl n)
+
+    numbered-class : (i : ℕ) → i < n → at classes i ≡ classOf (givenChart n m) n i
+    unfolding classOf
+    numbered-class i h =
+        let most = leader-most (givenChart n m) n i in
+        q .class-is i h ∙ ap (ledBefore l) (p .is i h) ∙ led-leaders (leaderFor (givenChart n m) n i) (omega arith)
+
+    -- the first state of a class
+    numbered-first : (c : ℕ) → c < mergedCount n m → at firsts c ≡ firstOf (givenChart n m) n c
+    unfolding mergedCount
+    numbered-first c h =
+        let f = first-of (givenChart n m) n c h in
+        let s = firstOf (givenChart n m) n c in
+        let number : ledBefore l s ≡ c =
+        led-leaders s (omega (arith, f .below)) ∙ sym (class-leads (givenChart n m) n s (f .leads)) ∙ f .class in
+        ap (at firsts) (sym number) ∙ q .first-is s (f .below) (p .is s (f .below) ∙ f .leads)
+
+    pub first-below : (c : ℕ) → c < count → at firsts c < n
+    unfolding mergedCount
+    first-below c h =
+        let i : c < mergedCount n m = omega (arith, numbered-count) in
+        omega (arith, numbered-first c i, first-of (givenChart n m) n c i .below)
+
+    label-entry : (x : ℕ) → labelOf n classes x ≡ entryOf (after (entryMove n x) signal (λ t. quiet (classOf (givenChart n m) n t)))
+    label-entry x = go (decLt x n)
+      where
+        go : Dec (x < n) → labelOf n classes x ≡ entryOf (after (entryMove n x) signal (λ t. quiet (classOf (givenChart n m) n t)))
+        go (yes h) = rw (lt-ltb x n h) (numbered-class x h)
+        go (no h) = let k : n ≤ x = omega arith in rw (le-ltb x n k)
+
+    -- what is carried over are the merged moves
+    pub carried-moves : (before after : List ℕ) → after ≡ front (zoneCount * count) (carried n m classes firsts) before
+        → after ≡ mergedMoves n m ++ drop (zoneCount * mergedCount n m) before
+    unfolding front mergedMoves mergedMove
+    carried-moves before after e =
+        let same : (k : ℕ) → k < zoneCount * mergedCount n m
+            → carried n m classes firsts k ≡ entryOf (mergedMove (givenChart n m) n (k / zoneCount) (k % zoneCount)) =
+        λ k h.
+        ap (λ s. labelOf n classes (at m (zoneCount * s + k % zoneCount))) (numbered-first (k / zoneCount) (omega arith))
+        ∙ label-entry (at m (zoneCount * firstOf (givenChart n m) n (k / zoneCount) + k % zoneCount)) in
+        e ∙ ap (λ c. tab (zoneCount * c) (carried n m classes firsts) ++ drop (zoneCount * c) before) numbered-count
+        ∙ ap (λ x. x ++ drop (zoneCount * mergedCount n m) before) (tab-cong (zoneCount * mergedCount n m) _ _ same)
+
+    -- the moves can be carried over
+    pub carry-can : n ≤ maxStates → zoneCount * n ≤ length m → n ≤ length classes → n ≤ length firsts → (merged : List ℕ)
+        → zoneCount * n ≤ length merged → Carriable n m classes firsts merged count
+    unfolding mergedCount
+    carry-can few moves classes-room firsts-room merged room = record {
+      few = few;
+      fewer = omega (arith, numbered-count, count-most (givenChart n m) n);
+      first-below = first-below;
+      moves-room = moves;
+      classes-room = classes-room;
+      firsts-room = firsts-room;
+      merged-room = room;
+    }
+
+-- ---- the lists of zeros that merging begins with
+
+module _ {n : ℕ} {m merged : List ℕ} (p : Mergeable n m merged) where
+  pub rounds-of : HasRoom n m (replicate maxStates 0) × (n ≤ maxStates) × HoldsLeaders n m (replicate maxStates 0) 0
+  rounds-of = (
+    record { few = p .few; moves = p .moves; room = omega (arith, p .few, length-replicate {A = ℕ} maxStates 0) },
+    p .few,
+    none-held (λ i h. getD-replicate {A = ℕ} maxStates i 0 0 (omega (arith, p .few))),
+  )
+
+  pub number-of : {l : List ℕ} → HoldsLeaders n m l n → length l ≡ maxStates
+      → Numberable n l (replicate maxStates 0) (replicate maxStates 0)
+  number-of q e = record {
+    few = p .few;
+    led = leaders-led q;
+    leaders-room = omega (arith, p .few);
+    classes-room = omega (arith, p .few, length-replicate {A = ℕ} maxStates 0);
+    firsts-room = omega (arith, p .few, length-replicate {A = ℕ} maxStates 0);
+  }

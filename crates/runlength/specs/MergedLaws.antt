@@ -1,0 +1,198 @@
+-- The merged states: two states are in one class exactly where they have equal futures; the merged chart has the future of the chart, and no
+-- two of its states have the same; so no chart that first signals on the same sequences has fewer states. Laws.
+use Prim.Native.Nat.{ℕ, zero, suc, _+_, _≤_, _<_}
+use mathlib.Core.Path.{_≡_, refl, sym, ap, _∙_}
+use mathlib.Core.Bool.{Bool, true, false}
+use mathlib.Core.Logic.{_↔_}
+use mathlib.Core.List.{List}
+use native.Mathlib.Omega.{arith}
+use native.Mathlib.Nat.{le-refl}
+use native.Mathlib.Numerals.{add-one}
+use native.Mathlib.Decide.{decLt}
+use borrow.Author.Tests.{eq-eqb, eqb-true, eqb-false, ne-eqb}
+use lib.Dec.{eqb}
+use lib.ListN.{length}
+use Rattle.runlength.specs.Sum.{sum, only}
+use Rattle.runlength.specs.SumLaws.{sum-upto, sum-more}
+use Rattle.runlength.specs.Automaton.{Automaton, Move, quiet, signal, after}
+use Rattle.runlength.specs.Future.{Alike, EqualFuture, Simulation}
+use Rattle.runlength.specs.FutureLaws.{simulation-future, future-step, future-sym, future-trans}
+use Rattle.runlength.specs.Lowest.{Lowest}
+use Rattle.runlength.specs.LowestLaws.{lowest-is, lowest-found}
+use Rattle.runlength.specs.AlikeLaws.{true-not-false}
+use Rattle.runlength.specs.Merged.{leaderFor, leadsFor, leadersFor, classCount, classOf, firstOf, mergedMove, mergedAutomaton}
+use Rattle.runlength.specs.ClassLaws.{leader-most, leader-leads, first-leads, leaders-most, leader-future, future-leader}
+use Rattle.runlength.specs.Fewest.{HoldsStates, Reached}
+use Rattle.runlength.specs.FewestLaws.{fewest}
+
+-- ---- numbers of classes
+
+module _ (a : Automaton ℕ) (k : ℕ) where
+  -- one more below the next state where a state leads, and else as many
+  pub leaders-lead : (i : ℕ) → leaderFor a k i ≡ i → leadersFor a k (i + 1) ≡ leadersFor a k i + 1
+  unfolding leadersFor
+  leaders-lead i e =
+      let one : only (leadsFor a k i) 1 ≡ 1 = ap (λ b. only b 1) (eq-eqb (leaderFor a k i) i e) in
+      omega (arith, sum-more i (λ j. only (leadsFor a k j) 1))
+
+  pub leaders-other : (i : ℕ) → (leaderFor a k i ≡ i → ⊥) → leadersFor a k (i + 1) ≡ leadersFor a k i
+  unfolding leadersFor
+  leaders-other i e =
+      let none : only (leadsFor a k i) 1 ≡ 0 = ap (λ b. only b 1) (ne-eqb (leaderFor a k i) i e) in
+      omega (arith, sum-more i (λ j. only (leadsFor a k j) 1))
+
+  leaders-upto : (i j : ℕ) → i ≤ j → leadersFor a k i ≤ leadersFor a k j
+  unfolding leadersFor
+  leaders-upto i j h = sum-upto i j (λ s. only (leadsFor a k s) 1) h
+
+  -- a state that leads has fewer before it than any later one
+  pub leaders-less : (i j : ℕ) → leaderFor a k i ≡ i → i < j → leadersFor a k i < leadersFor a k j
+  leaders-less i j e h = omega (arith, leaders-lead i e, leaders-upto (i + 1) j (omega arith))
+
+  -- each number below that of all is one of a state that leads
+  record Leading (m c i : ℕ) : Type 0 where
+    below : i < m
+    leads : leaderFor a k i ≡ i
+    number : leadersFor a k i ≡ c
+
+  leading : (m c : ℕ) → c < leadersFor a k m → (i : ℕ) × Leading m c i
+  unfolding leadersFor sum
+  leading zero c h = absurd (omega arith)
+  leading (suc m) c h = go (leadsFor a k m) refl (decLt c (leadersFor a k m)) (leading m c)
+    where
+      go : (b : Bool) → eqb (leaderFor a k m) m ≡ b → Dec (c < leadersFor a k m) → (c < leadersFor a k m → (i : ℕ) × Leading m c i)
+          → (i : ℕ) × Leading (suc m) c i
+      go b e (yes l) r =
+          let o = r l in
+          (o .0, record { below = omega (arith, o .1 .below); leads = o .1 .leads; number = o .1 .number })
+      go true e (no l) r =
+          let one : only (leadsFor a k m) 1 ≡ 1 = ap (λ b. only b 1) e in
+          (m, record { below = le-refl (suc m); leads = eqb-true (leaderFor a k m) m e; number = omega arith })
+      go false e (no l) r =
+          let none : only (leadsFor a k m) 1 ≡ 0 = ap (λ b. only b 1) e in
+          absurd (omega arith)
+
+-- ---- the classes
+
+module _ (a : Automaton ℕ) (n : ℕ) where
+  -- the class of a state that leads
+  pub class-leads : (i : ℕ) → leaderFor a n i ≡ i → classOf a n i ≡ leadersFor a n i
+  unfolding classOf
+  class-leads i e = ap (leadersFor a n) e
+
+  -- the class of a state is that of its leader
+  pub class-leader : (i : ℕ) → classOf a n (leaderFor a n i) ≡ classOf a n i
+  unfolding classOf
+  class-leader i = ap (leadersFor a n) (leader-leads a n i)
+
+  pub class-start : classOf a n 0 ≡ 0
+  unfolding classOf leadersFor sum
+  class-start = rw (first-leads a n)
+
+  -- it is a number below that of the classes
+  pub class-below : (i : ℕ) → i < n → classOf a n i < classCount a n
+  unfolding classOf classCount
+  class-below i h = leaders-less a n (leaderFor a n i) n (leader-leads a n i) (omega (arith, leader-most a n i))
+
+  -- no more classes than states
+  pub count-most : classCount a n ≤ n
+  unfolding classCount
+  count-most = leaders-most a n n
+
+  pub count-some : 0 < n → 0 < classCount a n
+  count-some some = omega (arith, class-below 0 some)
+
+  -- states of one class have one leader
+  class-same : (i j : ℕ) → classOf a n i ≡ classOf a n j → leaderFor a n i ≡ leaderFor a n j
+  unfolding classOf
+  class-same i j e = go (decLt (leaderFor a n i) (leaderFor a n j)) (decLt (leaderFor a n j) (leaderFor a n i))
+    where
+      go : Dec (leaderFor a n i < leaderFor a n j) → Dec (leaderFor a n j < leaderFor a n i) → leaderFor a n i ≡ leaderFor a n j
+      go (yes l) d = absurd (omega (arith, leaders-less a n (leaderFor a n i) (leaderFor a n j) (leader-leads a n i) l))
+      go (no k) (yes l) = absurd (omega (arith, leaders-less a n (leaderFor a n j) (leaderFor a n i) (leader-leads a n j) l))
+      go (no k) (no l) = omega arith
+
+  -- the first state of the class of one that leads is this one
+  pub first-is : (i : ℕ) → i < n → leaderFor a n i ≡ i → firstOf a n (leadersFor a n i) ≡ i
+  unfolding firstOf classOf
+  first-is i h e = sym (lowest-found (λ j. eqb (classOf a n j) (leadersFor a n i)) n i (record {
+    most = omega arith;
+    hit = λ l. eq-eqb (classOf a n i) (leadersFor a n i) (class-leads i e);
+    miss = λ j l. ne-eqb (classOf a n j) (leadersFor a n i) (λ q. before j l q);
+  }))
+    where
+      before : (j : ℕ) → j < i → classOf a n j ≡ leadersFor a n i → ⊥
+      before j l q = omega (arith, leaders-less a n (leaderFor a n j) i (leader-leads a n j) (omega (arith, leader-most a n j)))
+
+  -- each class has a first state, which leads it
+  pub record FirstOf (c i : ℕ) : Type 0 where
+    pub below : i < n
+    pub leads : leaderFor a n i ≡ i
+    pub class : classOf a n i ≡ c
+
+  pub first-of : (c : ℕ) → c < classCount a n → FirstOf c (firstOf a n c)
+  unfolding classCount
+  first-of c h =
+      let o = leading a n n c h in
+      let e : firstOf a n c ≡ o .0 = ap (firstOf a n) (sym (o .1 .number)) ∙ first-is (o .0) (o .1 .below) (o .1 .leads) in
+      rw e (record { below = o .1 .below; leads = o .1 .leads; class = class-leads (o .0) (o .1 .leads) ∙ o .1 .number })
+
+  module _ (closed : (s z t : ℕ) → s < n → z < a .zones → a .move s z ≡ quiet t → t < n) where
+    -- Two states are in one class exactly where they have equal futures.
+    pub class-future : (i j : ℕ) → i < n → j < n → (classOf a n i ≡ classOf a n j) ↔ EqualFuture a a i j
+    unfolding classOf
+    class-future i j h l =
+        (λ e. leader-future a n closed i j h l (class-same i j e), λ e. ap (leadersFor a n) (future-leader a n closed i j e))
+
+    -- ---- the merged chart
+
+    -- a state, and its class
+    pub record OfClass (i c : ℕ) : Type 0 where
+      pub below : i < n
+      pub is : classOf a n i ≡ c
+
+    alike-class : (m o : Move ℕ) → ((x : ℕ) → m ≡ quiet x → x < n) → ((y : ℕ) → o ≡ quiet y → y < n) → Alike (EqualFuture a a) m o
+        → Alike OfClass m (after o signal (λ t. quiet (classOf a n t)))
+    unfolding Alike
+    alike-class (quiet x) (quiet y) f g e = record { below = f x refl; is = class-future x y (f x refl) (g y refl) .1 e }
+    alike-class (quiet x) signal f g e = absurd e
+    alike-class signal (quiet y) f g e = absurd e
+    alike-class signal signal f g e = tt
+
+    class-kept : (i c : ℕ) → OfClass i c → (z : ℕ) → z < a .zones → Alike OfClass (a .move i z) (mergedMove a n c z)
+    unfolding mergedMove
+    class-kept i c p z h =
+        let o = first-of c (omega (arith, class-below i (p .below), p .is)) in
+        let e = class-future i (firstOf a n c) (p .below) (o .below) .0 (p .is ∙ sym (o .class)) in
+        alike-class (a .move i z) (a .move (firstOf a n c) z) (λ x. closed i z x (p .below) h) (λ y. closed (firstOf a n c) z y (o .below) h)
+        (future-step a a e z h)
+
+    pub class-simulation : Simulation a (mergedAutomaton a n) OfClass
+    class-simulation = record { same-zones = refl; kept = class-kept }
+
+    -- The merged chart has, from the class of a state, the state's future.
+    pub merged-future : (i : ℕ) → i < n → EqualFuture a (mergedAutomaton a n) i (classOf a n i)
+    merged-future i h = simulation-future a (mergedAutomaton a n) OfClass class-simulation (record { below = h; is = refl })
+
+    -- No two of its states have equal futures.
+    pub merged-apart : (c d : ℕ) → c < d → d < classCount a n → EqualFuture (mergedAutomaton a n) (mergedAutomaton a n) c d → ⊥
+    merged-apart c d l h e =
+        let m = mergedAutomaton a n in
+        let p = first-of c (omega arith) in
+        let q = first-of d h in
+        let f : EqualFuture a m (firstOf a n c) c = rw (p .class) at (merged-future (firstOf a n c) (p .below)) in
+        let g : EqualFuture a m (firstOf a n d) d = rw (q .class) at (merged-future (firstOf a n d) (q .below)) in
+        let both = future-trans a m a f (future-trans m m a e (future-sym a m g)) in
+        omega (arith, class-future (firstOf a n c) (firstOf a n d) (p .below) (q .below) .1 both, p .class, q .class)
+
+    -- ---- fewest
+
+    -- where every state is reached, no chart that first signals on the same sequences has fewer states than there are classes
+    pub merged-fewest : a .start < n → ((i : ℕ) → i < n → Reached a i) → {B : Type 0} (b : Automaton B) (xs : List B)
+        → HoldsStates b xs → EqualFuture a b (a .start) (b .start) → classCount a n ≤ length xs
+    merged-fewest begins reached b xs holds same =
+        fewest a b xs holds same (classCount a n) (firstOf a n) (λ c h. reached (firstOf a n c) (first-of c h .below))
+        (λ c d l h e.
+        let p = first-of c (omega arith) in
+        let q = first-of d h in
+        omega (arith, class-future (firstOf a n c) (firstOf a n d) (p .below) (q .below) .1 e, p .class, q .class))
