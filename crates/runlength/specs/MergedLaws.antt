@@ -6,7 +6,7 @@ use mathlib.Core.Bool.{Bool, true, false}
 use mathlib.Core.Logic.{_↔_}
 use mathlib.Core.List.{List}
 use native.Mathlib.Omega.{arith}
-use native.Mathlib.Nat.{le-refl}
+use native.Mathlib.Nat.{le-refl, add-zero}
 use native.Mathlib.Numerals.{add-one}
 use native.Mathlib.Decide.{decLt}
 use borrow.Author.Tests.{eq-eqb, eqb-true, eqb-false, ne-eqb}
@@ -102,8 +102,12 @@ module _ (a : Automaton ℕ) (n : ℕ) where
   pub count-some : 0 < n → 0 < classCount a n
   count-some some = omega (arith, class-below 0 some)
 
-  -- states of one class have one leader
-  class-same : (i j : ℕ) → classOf a n i ≡ classOf a n j → leaderFor a n i ≡ leaderFor a n j
+  -- states of one leader are of one class, and states of one class have one leader
+  pub same-class : (i j : ℕ) → leaderFor a n i ≡ leaderFor a n j → classOf a n i ≡ classOf a n j
+  unfolding classOf
+  same-class i j e = ap (leadersFor a n) e
+
+  pub class-same : (i j : ℕ) → classOf a n i ≡ classOf a n j → leaderFor a n i ≡ leaderFor a n j
   unfolding classOf
   class-same i j e = go (decLt (leaderFor a n i) (leaderFor a n j)) (decLt (leaderFor a n j) (leaderFor a n i))
     where
@@ -137,12 +141,30 @@ module _ (a : Automaton ℕ) (n : ℕ) where
       let e : firstOf a n c ≡ o .0 = ap (firstOf a n) (sym (o .1 .number)) ∙ first-is (o .0) (o .1 .below) (o .1 .leads) in
       rw e (record { below = o .1 .below; leads = o .1 .leads; class = class-leads (o .0) (o .1 .leads) ∙ o .1 .number })
 
+  -- a sum over the classes, of what their first states have, is one over the states that lead
+  leading-sum : (f : ℕ → ℕ) (i : ℕ) → i ≤ n → sum i (λ s. only (leadsFor a n s) (f s)) ≡ sum (leadersFor a n i) (λ c. f (firstOf a n c))
+  unfolding sum leadersFor
+  leading-sum f zero h = refl
+  leading-sum f (suc i) h = go (leadsFor a n i) refl (leading-sum f i (omega arith))
+    where
+      go : (b : Bool) → eqb (leaderFor a n i) i ≡ b
+          → sum i (λ s. only (leadsFor a n s) (f s)) ≡ sum (leadersFor a n i) (λ c. f (firstOf a n c))
+          → sum i (λ s. only (leadsFor a n s) (f s)) + only b (f i) ≡ sum (leadersFor a n i + only b 1) (λ c. f (firstOf a n c))
+      go true e r =
+          let first = first-is i (omega arith) (eqb-true (leaderFor a n i) i e) in
+          omega (arith, r, sum-more (leadersFor a n i) (λ c. f (firstOf a n c)), ap f first)
+      go false e r = omega (arith, r, ap (λ k. sum k (λ c. f (firstOf a n c))) (add-zero (leadersFor a n i)))
+
+  pub sum-classes : (f : ℕ → ℕ) → sum n (λ s. only (leadsFor a n s) (f s)) ≡ sum (classCount a n) (λ c. f (firstOf a n c))
+  unfolding classCount
+  sum-classes f = leading-sum f n (le-refl n)
+
   module _ (closed : (s z t : ℕ) → s < n → z < a .zones → a .move s z ≡ quiet t → t < n) where
     -- Two states are in one class exactly where they have equal futures.
     pub class-future : (i j : ℕ) → i < n → j < n → (classOf a n i ≡ classOf a n j) ↔ EqualFuture a a i j
     unfolding classOf
     class-future i j h l =
-        (λ e. leader-future a n closed i j h l (class-same i j e), λ e. ap (leadersFor a n) (future-leader a n closed i j e))
+        (λ e. leader-future a n closed i j h l (class-same i j e), λ e. same-class i j (future-leader a n closed i j e))
 
     -- ---- the merged chart
 
@@ -188,9 +210,9 @@ module _ (a : Automaton ℕ) (n : ℕ) where
     -- ---- fewest
 
     -- where every state is reached, no chart that first signals on the same sequences has fewer states than there are classes
-    pub merged-fewest : a .start < n → ((i : ℕ) → i < n → Reached a i) → {B : Type 0} (b : Automaton B) (xs : List B)
+    pub merged-fewest : ((i : ℕ) → i < n → Reached a i) → {B : Type 0} (b : Automaton B) (xs : List B)
         → HoldsStates b xs → EqualFuture a b (a .start) (b .start) → classCount a n ≤ length xs
-    merged-fewest begins reached b xs holds same =
+    merged-fewest reached b xs holds same =
         fewest a b xs holds same (classCount a n) (firstOf a n) (λ c h. reached (firstOf a n c) (first-of c h .below))
         (λ c d l h e.
         let p = first-of c (omega arith) in

@@ -1,5 +1,6 @@
--- TO BELIEVE: document 01's round-down steps by STATE, whatever place a state has in a list. Definitions.
+-- TO BELIEVE: document 01's round-down steps by STATE, over the states that differ, whatever number each of them has. Definitions.
 use Prim.Native.Nat.{ℕ, zero, suc, _*_, _/_}
+use mathlib.Core.Bool.{Bool}
 use mathlib.Core.List.{List}
 use lib.Dec.{eqb}
 use lib.ListN.{length}
@@ -8,26 +9,37 @@ use Rattle.rules.specs.Bounds.{zoneCount}
 use Rattle.runlength.specs.Scale.{weightTotal, unitsPerOne}
 use Rattle.runlength.specs.Sum.{at, sum, only}
 use Rattle.runlength.specs.Automaton.{after}
+use Rattle.runlength.specs.Lowest.{lowest}
+use Rattle.runlength.specs.Alike.{alikeFor}
 use Rattle.states.specs.States.{states}
 use Rattle.states.specs.Automata.{stateAutomaton}
 
--- the sum over the states that are met: each stands once in the list of them
-unfoldable pub overStates : List Rule → (ℕ → ℕ) → ℕ
-overStates rs f = sum (length (states (stateAutomaton rs))) (λ i. f (at (states (stateAutomaton rs)) i))
+module _ (rs : List Rule) where
+  -- no continuation, of up to as many points as states are met, tells the two states apart
+  unfoldable pub alikeStates : ℕ → ℕ → Bool
+  alikeStates s t = alikeFor (stateAutomaton rs) (length (states (stateAutomaton rs))) s t
 
-module _ (rs : List Rule) (weights : List ℕ) where
-  -- what reaches the state t in one point: over each state and zone that leads to t with no signal, units × weight
-  unfoldable pub stateInflow : (ℕ → ℕ) → ℕ → ℕ
-  stateInflow units t =
-      overStates rs (λ s. sum zoneCount (λ z.
-      after (stateAutomaton rs .move s z) 0 (λ r. only (eqb r t) (units s * at weights z))))
+  -- the state at the place i of the list of the states met is not alike to any before it
+  unfoldable pub firstOfItsKind : ℕ → Bool
+  firstOfItsKind i = eqb (lowest (λ j. alikeStates (at (states (stateAutomaton rs)) j) (at (states (stateAutomaton rs)) i)) i) i
 
-  -- what signals in one point: the same over the signalling moves
-  unfoldable pub stateSignalled : (ℕ → ℕ) → ℕ
-  stateSignalled units =
-      overStates rs (λ s. sum zoneCount (λ z. after (stateAutomaton rs .move s z) (units s * at weights z) (λ r. 0)))
+  -- the sum over the states that differ: of those that are alike the first in the list
+  unfoldable pub overStates : (ℕ → ℕ) → ℕ
+  overStates f = sum (length (states (stateAutomaton rs))) (λ i. only (firstOfItsKind i) (f (at (states (stateAutomaton rs)) i)))
 
-  -- all units are in the empty state; then each state's whole sum is divided once and rounded down
-  unfoldable pub stateUnits : ℕ → ℕ → ℕ
-  stateUnits zero t = only (eqb (stateAutomaton rs .start) t) unitsPerOne
-  stateUnits (suc n) t = stateInflow (stateUnits n) t / weightTotal
+  module _ (weights : List ℕ) where
+    -- what reaches the state t in one point: over each state and zone that leads with no signal to a state alike to t, units × weight
+    unfoldable pub stateInflow : (ℕ → ℕ) → ℕ → ℕ
+    stateInflow units t =
+        overStates (λ s. sum zoneCount (λ z.
+        after (stateAutomaton rs .move s z) 0 (λ r. only (alikeStates r t) (units s * at weights z))))
+
+    -- what signals in one point: the same over the signalling moves
+    unfoldable pub stateSignalled : (ℕ → ℕ) → ℕ
+    stateSignalled units =
+        overStates (λ s. sum zoneCount (λ z. after (stateAutomaton rs .move s z) (units s * at weights z) (λ r. 0)))
+
+    -- all units are in the empty state; then each state's whole sum is divided once and rounded down
+    unfoldable pub stateUnits : ℕ → ℕ → ℕ
+    stateUnits zero t = only (alikeStates (stateAutomaton rs .start) t) unitsPerOne
+    stateUnits (suc n) t = stateInflow (stateUnits n) t / weightTotal

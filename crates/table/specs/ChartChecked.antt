@@ -14,7 +14,7 @@ use Rattle.table.specs.declared.chart.ChartAnswer.the-variants.{Accepted
 use Rattle.table.specs.TableChain.{stateCount, chainMoves}
 use Rattle.table.specs.Table.{chartCheck}
 
--- n is the chain's number of states, and the list begins with their moves
+-- n is the chain's number of states, those that differ, and the list begins with their moves
 pub record HoldsMoves (rs : List Rule) (n : ℕ) (m : List ℕ) : Type 0 where
   pub count : n ≡ stateCount rs
   pub few : n ≤ maxStates

@@ -1,10 +1,11 @@
 -- The checks of a chart case by case, and what a chart that passes them has. Laws.
 use mathlib.Core.Path.{_≡_, refl, sym, ap, _∙_}
 use mathlib.Core.Bool.{Bool, true, false}
-use mathlib.Core.List.{List}
+use mathlib.Core.List.{List, _++_}
 use Prim.Native.Nat.{ℕ, _*_, _≤_, _<_}
 use native.Mathlib.Omega.{arith}
 use lib.Dec.{eqb}
+use lib.ListN.{length, drop, length-append, List·getD-append}
 use lib.Seq.{getD-take}
 use borrow.Author.Tests.{le-leb, lt-leb, leb-true, eq-eqb, ne-eqb, eqb-true}
 use Rattle.rules.specs.declared.Rule.{Rule}
@@ -17,8 +18,12 @@ use Rattle.rules.specs.Check.{within, unless, activeRules, checkOf}
 use Rattle.rules.specs.CheckLaws.{both, between, accepted}
 use Rattle.runlength.specs.Scale.{minHorizon, maxHorizon, weightTotal}
 use Rattle.runlength.specs.Sum.{at, sum}
+use Rattle.states.specs.States.{moves}
 use Rattle.states.specs.Automata.{stateAutomaton}
 use Rattle.states.specs.Explore.{Explored}
+use Rattle.merge.specs.Merge.{mergedCount, mergedMoves, Mergeable}
+use Rattle.merge.specs.MergeLaws.{merged-most, merged-length}
+use Rattle.merge.specs.PrefixLaws.{same-count, same-moves}
 use Rattle.table.specs.TableChain.{exploredCount, stateCount, chainMoves}
 use Rattle.table.specs.Table.{chartCheck}
 use Rattle.table.specs.ChartChecked.{HoldsMoves}
@@ -97,20 +102,43 @@ accepted-chart l w h e =
 pub chart-accepted : {l : RuleList} {w : List ℕ} {h : ℕ} → AcceptedChart l w h → chartCheck l w h ≡ Accepted
 chart-accepted {l} {w} {h} c = chart-passes l w h (c .rules) (c .weights) (c .some-horizon) (c .most-horizon) (c .few)
 
--- ---- what exploring leaves
+-- ---- what exploring and merging leave
 
-module _ (rs : List Rule) {found m : List ℕ} {n : ℕ} (e : Explored (stateAutomaton rs) found m n) where
+module _ (rs : List Rule) {found e : List ℕ} {n : ℕ} (x : Explored (stateAutomaton rs) found e n) where
   -- so many are explored
   pub explored-count : n ≡ exploredCount rs
   unfolding exploredCount
-  explored-count = e .count
+  explored-count = x .count
 
-  -- where they are not too many, the list begins with the moves of the chain
-  pub explored-moves : n ≤ maxStates → HoldsMoves rs n m
-  unfolding stateCount chainMoves
-  explored-moves few = record {
-    count = e .count;
-    few = few;
-    room = omega (arith, e .entries-length);
-    same = λ k i. sym (getD-take (zoneCount * n) m k 0 i) ∙ ap (λ x. at x k) (e .found-moves few);
-  }
+  -- where they are not too many, they can be merged
+  pub explored-merge : n ≤ maxStates → (m : List ℕ) → length m ≡ zoneCount * maxStates → Mergeable n e m
+  explored-merge few m room = record { few = few; moves = omega (arith, x .entries-length); room = omega arith }
+
+  -- the list begins with the moves of the explored states
+  explored-moves : n ≤ maxStates → (k : ℕ) → k < zoneCount * n → at e k ≡ at (moves (stateAutomaton rs)) k
+  explored-moves few k i = sym (getD-take (zoneCount * n) e k 0 i) ∙ ap (λ l. at l k) (x .found-moves few)
+
+  -- merged, the list begins with the moves of the chain
+  module _ (few : n ≤ maxStates) {r : ℕ} (m m′ : List ℕ) (count : r ≡ mergedCount n e)
+      (merged : m′ ≡ mergedMoves n e ++ drop (zoneCount * mergedCount n e) m) where
+    merged-count : r ≡ stateCount rs
+    unfolding stateCount exploredCount
+    merged-count =
+        count ∙ same-count n e (moves (stateAutomaton rs)) (explored-moves few)
+        ∙ ap (λ k. mergedCount k (moves (stateAutomaton rs))) (x .count)
+
+    pub merged-held : zoneCount * n ≤ length m → HoldsMoves rs r m′
+    unfolding chainMoves exploredCount
+    merged-held room =
+        let most = merged-most n e in
+        let long = merged-length n e in
+        record {
+          count = merged-count;
+          few = omega (arith, count);
+          room = omega (arith, ap length merged, length-append (mergedMoves n e) (drop (zoneCount * mergedCount n e) m), count);
+          same = λ k i.
+              ap (λ l. at l k) merged
+              ∙ List·getD-append (mergedMoves n e) (drop (zoneCount * mergedCount n e) m) 0 k (omega (arith, count))
+              ∙ ap (λ l. at l k) (same-moves n e (moves (stateAutomaton rs)) (explored-moves few))
+              ∙ ap (λ j. at (mergedMoves j (moves (stateAutomaton rs))) k) (x .count);
+        }

@@ -1,8 +1,14 @@
--- The four laws of the chain that the table runs on: it is proper; it has the plain chart's future; its size is N; its units by state.
+-- The laws of the chain that the table runs on: it is proper; it has the plain chart's future; its size is N; no chart has fewer states; its
+-- units by state.
 use mathlib.Core.Path.{_≡_, refl, sym, ap, _∙_}
+use mathlib.Core.Bool.{Bool, true, false}
 use mathlib.Core.List.{List, []}
-use Prim.Native.Nat.{ℕ, zero, suc, _*_, _/_, _≤_, _<_}
+use mathlib.Core.Logic.{⊎-elim}
+use Prim.Native.Nat.{ℕ, zero, suc, _+_, _*_, _/_, _≤_, _<_}
 use native.Mathlib.Omega.{arith}
+use native.Mathlib.Nat.{le-refl}
+use native.Mathlib.Numerals.{add-one}
+use borrow.Author.Tests.{eq-eqb, eqb-true, eqb-false}
 use lib.Dec.{eqb}
 use lib.ListN.{length}
 use Rattle.rules.specs.declared.Rule.{Rule}
@@ -11,29 +17,43 @@ use Rattle.rules.specs.InBounds.{AllInBounds}
 use Rattle.runlength.specs.Scale.{weightTotal, unitsPerOne}
 use Rattle.runlength.specs.Sum.{at, sum, only}
 use Rattle.runlength.specs.SumLaws.{sum-cong}
-use Rattle.runlength.specs.Automaton.{Move, quiet, signal, after}
+use Rattle.runlength.specs.Automaton.{Automaton, Move, quiet, signal, after}
 use Rattle.runlength.specs.Chain.{Proper, inflow, signalled, units, pmf, survival}
+use Rattle.runlength.specs.Listed.{listedAutomaton}
 use Rattle.runlength.specs.Future.{Alike, EqualFuture}
+use Rattle.runlength.specs.FutureLaws.{future-trans}
+use Rattle.runlength.specs.LowestLaws.{lowest-cong}
+use Rattle.runlength.specs.AlikeLaws.{same-test-by, simulation-alike}
+use Rattle.runlength.specs.Alike.{alikeFor}
+use Rattle.runlength.specs.Merged.{leaderFor, leadsFor, leadersFor, classCount, classOf, firstOf, mergedMove}
+use Rattle.runlength.specs.ClassLaws.{leader-same, same-leader}
+use Rattle.runlength.specs.MergedLaws.{class-start, class-same, first-of, sum-classes}
+use Rattle.runlength.specs.MergedLaws as merged
 use Rattle.runlength.specs.ListedLaws.{listed-proper}
-use Rattle.states.specs.States.{states}
+use Rattle.states.specs.States.{states, moves}
 use Rattle.states.specs.Automata.{stateAutomaton, referenceAutomaton}
 use Rattle.states.specs.AutomataLaws.{explored-reference}
 use Rattle.states.specs.Places.{At}
-use Rattle.states.specs.PlaceLaws.{same-test}
-use Rattle.states.specs.StatesLaws.{states-some, states-first, states-distinct, explored-simulation}
+use Rattle.states.specs.StatesLaws.{states-some, states-first, explored-simulation}
+use Rattle.merge.specs.Merge.{givenChart, mergedCount, mergedMoves}
+use Rattle.merge.specs.MergeLaws.{given-closed, merged-most, listed-merged, listed-future}
 use Rattle.table.specs.TableChain.{exploredCount, stateCount, chainMoves, tableAutomaton, tableChain}
-use Rattle.table.specs.ByState.{overStates, stateInflow, stateSignalled, stateUnits}
+use Rattle.table.specs.ByState.{alikeStates, firstOfItsKind, overStates, stateInflow, stateSignalled, stateUnits}
 
 module _ (rs : List Rule) where
-  -- there is a state, that of a chart just reset
+  -- some state is explored, that of a chart just reset
+  explored-some : 0 < exploredCount rs
+  unfolding exploredCount
+  explored-some = states-some (stateAutomaton rs)
+
   pub count-some : 1 ≤ stateCount rs
-  unfolding stateCount
-  count-some = states-some (stateAutomaton rs)
+  unfolding stateCount mergedCount
+  count-some = merged.count-some (givenChart (exploredCount rs) (moves (stateAutomaton rs))) (exploredCount rs) explored-some
 
   -- no more states than are explored
   pub count-explored : stateCount rs ≤ exploredCount rs
-  unfolding stateCount exploredCount
-  count-explored = omega arith
+  unfolding stateCount
+  count-explored = merged-most (exploredCount rs) (moves (stateAutomaton rs))
 
   -- its size is N
   pub chain-size : (w : List ℕ) → tableChain rs w .size ≡ stateCount rs
@@ -44,40 +64,92 @@ module _ (rs : List Rule) where
   unfolding tableAutomaton
   chain-proper w weights = listed-proper zoneCount (stateCount rs) (chainMoves rs) (at w) count-some weights
 
+  -- the places of the explored states, and their moves
+  abbrev met : List ℕ
+  met = states (stateAutomaton rs)
+
+  abbrev n : ℕ
+  n = length met
+
+  abbrev given : Automaton ℕ
+  given = givenChart n (moves (stateAutomaton rs))
+
   module _ (few : exploredCount rs ≤ maxStates) where
+    few-met : n ≤ maxStates
+    unfolding exploredCount
+    few-met = few
+
     -- it has the future of the plain chart from an empty row
     pub chain-future : AllInBounds rs → EqualFuture (referenceAutomaton rs) (tableAutomaton rs) [] (tableAutomaton rs .start)
     unfolding tableAutomaton stateCount exploredCount chainMoves
-    chain-future bounds = explored-reference rs bounds few
+    chain-future bounds =
+        future-trans (referenceAutomaton rs) given (tableAutomaton rs) (explored-reference rs bounds few-met)
+        (rw (class-start given n) at (listed-future n (moves (stateAutomaton rs)) few-met 0 (states-some (stateAutomaton rs))))
 
     -- ---- its rounded units, by state
 
-    abbrev met : List ℕ
-    met = states (stateAutomaton rs)
+    -- the state of a class: that of its first place
+    abbrev stateOf : ℕ → ℕ
+    stateOf c = at met (firstOf given n c)
 
     -- a place of the list, as the relation of places and states
-    standing : (i : ℕ) → i < length met → At met i (at met i)
+    standing : (i : ℕ) → i < n → At met i (at met i)
     standing i l = record { below = l; is = refl }
 
-    -- different places hold different states
-    by-state : (i j : ℕ) → i < length met → j < length met → eqb i j ≡ eqb (at met i) (at met j)
-    by-state i j k l = sym (same-test (at met) (length met) (states-distinct (stateAutomaton rs) .apart) i j k l)
+    -- states are alike exactly where their places are
+    alike-places : (i j : ℕ) → i < n → j < n → alikeFor given n i j ≡ alikeStates rs (at met i) (at met j)
+    unfolding alikeStates
+    alike-places i j h l =
+        simulation-alike given (stateAutomaton rs) (At met) (explored-simulation (stateAutomaton rs) few-met) n i j (at met i) (at met j)
+        (standing i h) (standing j l)
+
+    -- a place is of a class exactly where its state is alike to that of the class
+    by-class : (i c : ℕ) → i < n → c < classCount given n → eqb (classOf given n i) c ≡ alikeStates rs (at met i) (stateOf c)
+    by-class i c h l =
+        let f = first-of given n c l in
+        same-test-by (eqb (classOf given n i) c) (alikeFor given n i (firstOf given n c))
+        (λ e. leader-same given n i (firstOf given n c) (class-same given n i (firstOf given n c) (eqb-true (classOf given n i) c e ∙ sym (f .class))))
+        (λ e. eq-eqb (classOf given n i) c (merged.same-class given n i (firstOf given n c) (same-leader given n i (firstOf given n c) e) ∙ f .class))
+        ∙ alike-places i (firstOf given n c) h (f .below)
+
+    -- the first place of a class holds the first state of its kind
+    by-first : (i : ℕ) → i < n → leadsFor given n i ≡ firstOfItsKind rs i
+    unfolding leaderFor firstOfItsKind
+    by-first i h = ap (λ x. eqb x i) (lowest-cong _ _ i (λ j l. alike-places j i (omega arith) h))
+
+    -- a sum over the classes is one over the states that differ
+    over-classes : (f : ℕ → ℕ) → sum (classCount given n) (λ c. f (stateOf c)) ≡ overStates rs f
+    unfolding overStates
+    over-classes f =
+        sym (sum-classes given n (λ i. f (at met i)))
+        ∙ sum-cong n _ _ (λ i h. ap (λ b. only b (f (at met i))) (by-first i h))
+
+    -- what the moves of a class bring, F saying what a move brings with what is brought to each place
+    class-move : (c z : ℕ) → c < classCount given n → z < zoneCount → {A : Type 0} (x : A) (f : ℕ → A)
+        → after (tableAutomaton rs .move c z) x f ≡ after (given .move (firstOf given n c) z) x (λ i. f (classOf given n i))
+    unfolding tableAutomaton stateCount exploredCount chainMoves mergedMove mergedCount
+    class-move c z h l x f =
+        ap (λ o. after o x f) (listed-merged n (moves (stateAutomaton rs)) few-met c z h l) ∙ go (given .move (firstOf given n c) z)
+      where
+        go : (o : Move ℕ) → after (after o signal (λ t. quiet (classOf given n t))) x f ≡ after o x (λ i. f (classOf given n i))
+        go (quiet t) = refl
+        go signal = refl
 
     -- a move of a place is that of its state
-    moved : (i z : ℕ) → i < length met → z < zoneCount → Alike (At met) (tableAutomaton rs .move i z) (stateAutomaton rs .move (at met i) z)
-    unfolding tableAutomaton stateCount exploredCount chainMoves
-    moved i z l h = explored-simulation (stateAutomaton rs) few .kept i (at met i) (standing i l) z h
+    moved : (i z : ℕ) → i < n → z < zoneCount → Alike (At met) (given .move i z) (stateAutomaton rs .move (at met i) z)
+    moved i z l h = explored-simulation (stateAutomaton rs) few-met .kept i (at met i) (standing i l) z h
 
-    -- what a move brings to a place it brings to the state that stands there
-    to-state : (t : ℕ) → t < length met → (x : ℕ) (m k : Move ℕ) → Alike (At met) m k
-        → after m 0 (λ r. only (eqb r t) x) ≡ after k 0 (λ r. only (eqb r (at met t)) x)
+    -- what a move brings to a class it brings to the state of the class
+    to-state : (d : ℕ) → d < classCount given n → (x : ℕ) (o k : Move ℕ) → Alike (At met) o k
+        → after o 0 (λ i. only (eqb (classOf given n i) d) x) ≡ after k 0 (λ r. only (alikeStates rs r (stateOf d)) x)
     unfolding Alike
-    to-state t l x (quiet i) (quiet s) p = ap (λ b. only b x) (by-state i t (p .below) l ∙ ap (λ y. eqb y (at met t)) (p .is))
-    to-state t l x (quiet i) signal p = absurd p
-    to-state t l x signal (quiet s) p = absurd p
-    to-state t l x signal signal p = refl
+    to-state d l x (quiet i) (quiet s) p =
+        ap (λ b. only b x) (by-class i d (p .below) l ∙ ap (λ y. alikeStates rs y (stateOf d)) (p .is))
+    to-state d l x (quiet i) signal p = absurd p
+    to-state d l x signal (quiet s) p = absurd p
+    to-state d l x signal signal p = refl
 
-    to-signal : (x : ℕ) (m k : Move ℕ) → Alike (At met) m k → after m x (λ r. 0) ≡ after k x (λ r. 0)
+    to-signal : (x : ℕ) (o k : Move ℕ) → Alike (At met) o k → after o x (λ r. 0) ≡ after k x (λ r. 0)
     unfolding Alike
     to-signal x (quiet i) (quiet s) p = refl
     to-signal x (quiet i) signal p = absurd p
@@ -85,27 +157,41 @@ module _ (rs : List Rule) where
     to-signal x signal signal p = refl
 
     module _ (w : List ℕ) where
-      -- the units of the place of a state are the state's
-      pub chain-units : (n i : ℕ) → i < stateCount rs → units (tableChain rs w) n i ≡ stateUnits rs w n (at met i)
-      unfolding units stateUnits stateInflow overStates inflow stateCount tableAutomaton
-      chain-units zero i l =
+      -- what the moves of a class and its state bring
+      class-inflow : (u v : ℕ → ℕ) → ((c : ℕ) → c < classCount given n → u c ≡ v (stateOf c)) → (d : ℕ) → d < classCount given n
+          → (c z : ℕ) → c < classCount given n → z < zoneCount
+          → after (tableAutomaton rs .move c z) 0 (λ r. only (eqb r d) (u c * at w z))
+          ≡ after (stateAutomaton rs .move (stateOf c) z) 0 (λ r. only (alikeStates rs r (stateOf d)) (v (stateOf c) * at w z))
+      class-inflow u v e d l c z h g =
+          class-move c z h g 0 (λ r. only (eqb r d) (u c * at w z))
+          ∙ to-state d l (u c * at w z) _ _ (moved (firstOf given n c) z (first-of given n c h .below) g)
+          ∙ ap (λ y. after (stateAutomaton rs .move (stateOf c) z) 0 (λ r. only (alikeStates rs r (stateOf d)) (y * at w z))) (e c h)
+
+      -- the units of a class are those of its state
+      class-units : (k c : ℕ) → c < classCount given n → units (tableChain rs w) k c ≡ stateUnits rs w k (stateOf c)
+      unfolding units stateUnits stateInflow inflow stateCount exploredCount tableAutomaton mergedCount
+      class-units zero c l =
           ap (λ b. only b unitsPerOne)
-          (by-state 0 i (states-some (stateAutomaton rs)) l ∙ ap (λ y. eqb y (at met i)) (states-first (stateAutomaton rs)))
-      chain-units (suc n) i l =
+          (ap (λ x. eqb x c) (sym (class-start given n)) ∙ by-class 0 c (states-some (stateAutomaton rs)) l
+          ∙ ap (λ y. alikeStates rs y (stateOf c)) (states-first (stateAutomaton rs)))
+      class-units (suc k) c l =
           ap (λ x. x / weightTotal)
-          (sum-cong (length met) _ _ (λ s k. sum-cong zoneCount _ _ (λ z h.
-          to-state i l _ _ _ (moved s z k h)
-          ∙ ap (λ u. after (stateAutomaton rs .move (at met s) z) 0 (λ r. only (eqb r (at met i)) (u * at w z))) (chain-units n s k))))
+          (sum-cong (classCount given n) _ _ (λ s h. sum-cong zoneCount _ _ (λ z g.
+          class-inflow (units (tableChain rs w) k) (stateUnits rs w k) (class-units k) c l s z h g))
+          ∙ over-classes (λ s. sum zoneCount (λ z.
+          after (stateAutomaton rs .move s z) 0 (λ r. only (alikeStates rs r (stateOf c)) (stateUnits rs w k s * at w z)))))
 
       -- so are the figures
-      pub chain-pmf : (n : ℕ) → pmf (tableChain rs w) (suc n) ≡ stateSignalled rs w (stateUnits rs w n) / weightTotal
-      unfolding pmf signalled stateSignalled overStates stateCount tableAutomaton
-      chain-pmf n =
+      pub chain-pmf : (k : ℕ) → pmf (tableChain rs w) (suc k) ≡ stateSignalled rs w (stateUnits rs w k) / weightTotal
+      unfolding pmf signalled stateSignalled stateCount exploredCount tableAutomaton mergedCount
+      chain-pmf k =
           ap (λ x. x / weightTotal)
-          (sum-cong (length met) _ _ (λ s k. sum-cong zoneCount _ _ (λ z h.
-          to-signal _ _ _ (moved s z k h)
-          ∙ ap (λ u. after (stateAutomaton rs .move (at met s) z) (u * at w z) (λ r. 0)) (chain-units n s k))))
+          (sum-cong (classCount given n) _ _ (λ s h. sum-cong zoneCount _ _ (λ z g.
+          class-move s z h g (units (tableChain rs w) k s * at w z) (λ r. 0)
+          ∙ to-signal _ _ _ (moved (firstOf given n s) z (first-of given n s h .below) g)
+          ∙ ap (λ y. after (stateAutomaton rs .move (stateOf s) z) (y * at w z) (λ r. 0)) (class-units k s h)))
+          ∙ over-classes (λ s. sum zoneCount (λ z. after (stateAutomaton rs .move s z) (stateUnits rs w k s * at w z) (λ r. 0))))
 
-      pub chain-survival : (n : ℕ) → survival (tableChain rs w) n ≡ overStates rs (stateUnits rs w n)
-      unfolding survival overStates stateCount
-      chain-survival n = sum-cong (length met) _ _ (λ s k. chain-units n s k)
+      pub chain-survival : (k : ℕ) → survival (tableChain rs w) k ≡ overStates rs (stateUnits rs w k)
+      unfolding survival stateCount exploredCount mergedCount
+      chain-survival k = sum-cong (classCount given n) _ _ (λ s h. class-units k s h) ∙ over-classes (stateUnits rs w k)

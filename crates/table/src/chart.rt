@@ -16,7 +16,7 @@ ghost use Rattle.rules.specs.declared.Checked.the-variants.{Accepted};
 ghost use Rattle.runlength.specs.Sum.{at, sum};
 ghost use Rattle.table.specs.ChartChecked.{ChartChecked};
 
-// So many states, or why the chart is refused.
+// So many states that differ, or why the chart is refused.
 pub enum ChartAnswer {
     Accepted(usize),
     Refused(Refusal),
@@ -42,7 +42,7 @@ fn weight_sum(weights: &[u32]) -> u64
     total
 }
 
-// A chart whose rules are accepted: 8; 9; 10, or the number of states, with their moves in the list.
+// A chart whose rules are accepted: 8; 9; 10, or the number of states that differ, with their moves in the list. 10 counts before merging.
 fn explored_chart(
     list: RuleList,
     weights: [u32; ZONES],
@@ -63,14 +63,16 @@ fn explored_chart(
         return refused(Refusal::HORIZON);
     }
     let mut found = [0u64; RuleList::MAX_STATES];
-    let n = states::explore(list, &mut found, moves);
+    let mut explored = [0u16; ZONES * RuleList::MAX_STATES];
+    let n = states::explore(list, &mut found, &mut explored);
     if n > RuleList::MAX_STATES {
         return refused(Refusal::STATES);
     }
-    ChartAnswer::Accepted(n)
+    ChartAnswer::Accepted(merge::merge(&explored, n, moves))
 }
 
-// A chart: 2, 3, 4; 8; 9; 10, or the number of states, with their moves in the list. For the crates of this repository: it has a `requires`.
+// A chart: 2, 3, 4; 8; 9; 10, or the number of states that differ, with their moves in the list. For the crates of this repository: it has a
+// `requires`.
 pub fn check_chart(
     list: RuleList,
     weights: [u32; ZONES],

@@ -1,0 +1,85 @@
+-- Merging goes by the moves of the n states alone: what stands behind them in the list changes nothing. Laws.
+use Prim.Native.Nat.{ℕ, _+_, _*_, _/_, _%_, _≤_, _<_}
+use mathlib.Core.Path.{_≡_, refl, sym, ap, ap₂, _∙_}
+use mathlib.Core.List.{List}
+use native.Mathlib.Omega.{arith}
+use native.Mathlib.Nat.{le-refl}
+use lib.Dec.{eqb}
+use Rattle.rules.specs.Bounds.{zoneCount}
+use Rattle.runlength.specs.Sum.{at, sum, only, tab}
+use Rattle.runlength.specs.SumLaws.{sum-cong}
+use Rattle.runlength.specs.TabLaws.{tab-cong}
+use Rattle.runlength.specs.Automaton.{Move, quiet, signal, after}
+use Rattle.runlength.specs.Listed.{entryMove}
+use Rattle.runlength.specs.ListedLaws.{entry-in}
+use Rattle.runlength.specs.Future.{Alike, Simulation}
+use Rattle.runlength.specs.LowestLaws.{lowest-cong}
+use Rattle.runlength.specs.AlikeLaws.{simulation-alike}
+use Rattle.runlength.specs.Merged.{leaderFor, leadersFor, classCount, classOf, firstOf, mergedMove}
+use Rattle.runlength.specs.ClassLaws.{leader-most}
+use Rattle.runlength.specs.MergedLaws.{first-of}
+use Rattle.merge.specs.Merge.{entryOf, givenChart, mergedCount, mergedMoves}
+
+module _ (n : ℕ) (m m′ : List ℕ) (same : (k : ℕ) → k < zoneCount * n → at m k ≡ at m′ k) where
+  -- a state, the same one of both charts
+  record Same (i j : ℕ) : Type 0 where
+    below : i < n
+    is : i ≡ j
+
+  alike-same : (o : Move ℕ) → ((t : ℕ) → o ≡ quiet t → t < n) → Alike Same o o
+  unfolding Alike
+  alike-same (quiet t) f = record { below = f t refl; is = refl }
+  alike-same signal f = tt
+
+  same-kept : (i j : ℕ) → Same i j → (z : ℕ) → z < zoneCount → Alike Same (givenChart n m .move i z) (givenChart n m′ .move j z)
+  same-kept i j p z h =
+      rw (sym (p .is), sym (same (zoneCount * i + z) (omega (arith, p .below))))
+      (alike-same (givenChart n m .move i z) (entry-in n (at m (zoneCount * i + z))))
+
+  same-chart : Simulation (givenChart n m) (givenChart n m′) Same
+  same-chart = record { same-zones = refl; kept = same-kept }
+
+  same-leader : (i : ℕ) → i < n → leaderFor (givenChart n m) n i ≡ leaderFor (givenChart n m′) n i
+  unfolding leaderFor
+  same-leader i h =
+      lowest-cong _ _ i (λ j l.
+      simulation-alike (givenChart n m) (givenChart n m′) Same same-chart n j i j i
+      (record { below = omega arith; is = refl }) (record { below = h; is = refl }))
+
+  same-leaders : (i : ℕ) → i ≤ n → leadersFor (givenChart n m) n i ≡ leadersFor (givenChart n m′) n i
+  unfolding leadersFor
+  same-leaders i h = sum-cong i _ _ (λ j l. ap (λ x. only (eqb x j) 1) (same-leader j (omega arith)))
+
+  pub same-count : mergedCount n m ≡ mergedCount n m′
+  unfolding mergedCount classCount
+  same-count = same-leaders n (le-refl n)
+
+  same-class : (i : ℕ) → i < n → classOf (givenChart n m) n i ≡ classOf (givenChart n m′) n i
+  unfolding classOf
+  same-class i h =
+      let most = leader-most (givenChart n m) n i in
+      same-leaders (leaderFor (givenChart n m) n i) (omega arith) ∙ ap (leadersFor (givenChart n m′) n) (same-leader i h)
+
+  same-first : (c : ℕ) → firstOf (givenChart n m) n c ≡ firstOf (givenChart n m′) n c
+  unfolding firstOf
+  same-first c = lowest-cong _ _ n (λ i h. ap (λ x. eqb x c) (same-class i h))
+
+  class-move : (o : Move ℕ) → ((t : ℕ) → o ≡ quiet t → t < n)
+      → after o signal (λ t. quiet (classOf (givenChart n m) n t)) ≡ after o signal (λ t. quiet (classOf (givenChart n m′) n t))
+  class-move (quiet t) f = ap quiet (same-class t (f t refl))
+  class-move signal f = refl
+
+  same-move : (c z : ℕ) → c < mergedCount n m → z < zoneCount → mergedMove (givenChart n m) n c z ≡ mergedMove (givenChart n m′) n c z
+  unfolding mergedMove mergedCount
+  same-move c z h l =
+      let s = firstOf (givenChart n m) n c in
+      let entry = same (zoneCount * s + z) (omega (arith, first-of (givenChart n m) n c h .below)) in
+      class-move (givenChart n m .move s z) (entry-in n (at m (zoneCount * s + z)))
+      ∙ ap (λ x. after (entryMove n x) signal (λ t. quiet (classOf (givenChart n m′) n t))) entry
+      ∙ ap (λ s. after (givenChart n m′ .move s z) signal (λ t. quiet (classOf (givenChart n m′) n t))) (same-first c)
+
+  pub same-moves : mergedMoves n m ≡ mergedMoves n m′
+  unfolding mergedMoves
+  same-moves =
+      tab-cong (zoneCount * mergedCount n m) _ _ (λ k h. ap entryOf (same-move (k / zoneCount) (k % zoneCount) (omega arith) (omega arith)))
+      ∙ ap (λ c. tab (zoneCount * c) (λ k. entryOf (mergedMove (givenChart n m′) n (k / zoneCount) (k % zoneCount)))) same-count
