@@ -1,4 +1,5 @@
 //! The rules of document 01, written out from its paragraphs: standings as lists of ages.
+use crate::merge::Moves;
 use crate::{refuse, Refusal, Rule};
 use std::collections::HashMap;
 
@@ -63,8 +64,8 @@ pub fn point(rules: &[Rule], standing: &[Vec<u32>], zone: usize) -> Option<Stand
 }
 
 /// The standings met with no signal by sequences of the first so many zones, and where each of these zones leads from each: none for a
-/// signal. Refused by 10 over 1,024.
-pub fn standings<const COUNT: usize>(rules: &[Rule]) -> Result<Vec<[Option<usize>; COUNT]>, Refusal> {
+/// signal. Refused by 10 over 1,024: that is looked at here, before any are merged.
+pub fn standings<const COUNT: usize>(rules: &[Rule]) -> Result<Moves<COUNT>, Refusal> {
     let start = empty(rules);
     let mut places = HashMap::from([(start.clone(), 0usize)]);
     let mut found = vec![start];

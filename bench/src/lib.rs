@@ -6,6 +6,7 @@ pub mod chart;
 pub mod format;
 pub mod inputs;
 pub mod lent;
+pub mod merge;
 pub mod monitor;
 pub mod monitor_program;
 pub mod monitors;
@@ -34,11 +35,17 @@ pub fn western_electric() -> Vec<Rule> {
     rules(&[(1, 1, 1), (2, 3, 64), (2, 3, 2), (4, 5, 96), (4, 5, 6), (8, 8, 112), (8, 8, 14)])
 }
 
+/// Western Electric with nine in a row in place of eight.
+pub fn with_nine() -> Vec<Rule> {
+    let nine = |r: Rule| if r.k == 8 { Rule { k: 9, m: 9, ..r } } else { r };
+    western_electric().into_iter().map(nine).collect()
+}
+
 pub fn duncan() -> Vec<Rule> {
     rules(&[(1, 1, 1), (2, 2, 64), (2, 2, 2), (5, 5, 96), (5, 5, 6)])
 }
 
-/// 3,9 and 3,8 over the sets {1,2} and {2,3}: 1,008 standings.
+/// 3,9 and 3,8 over the sets {1,2} and {2,3}: 1,008 standings, and each differs from every other.
 pub fn large() -> Vec<Rule> {
     rules(&[(3, 9, 6), (3, 8, 12)])
 }

@@ -1,14 +1,15 @@
-//! The run-length table of document 01 with 128-bit sums: a plain push over all moves.
+//! The run-length table of document 01 with 128-bit sums: a plain push over all moves of the standings that differ.
+use crate::merge::{merged, Moves};
 use crate::{chart, refuse, Refusal, Rule, ZONES};
 use catrovindy::Figures;
 
-/// The refusals of the table in their order, given the lengths of the two lists.
+/// The refusals of the table in their order, given the lengths of the two lists; else the moves of all standings, before any are merged.
 pub fn moves_of(
     rules: &[Rule],
     weights: &[u32; ZONES],
     horizon: u32,
     lengths: (usize, usize),
-) -> Result<Vec<[Option<usize>; ZONES]>, Refusal> {
+) -> Result<Moves<ZONES>, Refusal> {
     chart::check(rules)?;
     if weights.iter().map(|&w| u128::from(w)).sum::<u128>() != 1 << 30 {
         return refuse(8, 0);
@@ -66,7 +67,20 @@ pub fn rows<const COUNT: usize>(
     }
 }
 
+/// The table over the standings that differ: their number is N.
 pub fn table(
+    rules: &[Rule],
+    weights: &[u32; ZONES],
+    horizon: u32,
+    pmf: &mut [u64],
+    survival: &mut [u64],
+) -> Result<Figures, Refusal> {
+    let moves = moves_of(rules, weights, horizon, (pmf.len(), survival.len()))?;
+    Ok(rows(&merged(&moves), weights, horizon, pmf, survival))
+}
+
+/// The same with no standings merged: N is as large or larger, and the last units may be others. For the benchmark alone.
+pub fn unmerged(
     rules: &[Rule],
     weights: &[u32; ZONES],
     horizon: u32,

@@ -1,10 +1,11 @@
 //! Compares the proved library with the second implementation on many inputs, accepted and refused: every figure, every place of both
-//! lists, the places beyond the horizon among them. Where the centre has weight 0, also with a table that knows the other seven zones alone.
-//! In every row of an accepted table, what has signalled and what is left are 2^60 together, but for what rounding takes. Prints what it
-//! compared, and stops at the first difference.
+//! lists, the places beyond the horizon among them. Where the centre has weight 0, also with a table of the standings alone that the other
+//! seven zones meet, out of those that all eight tell apart. In every row of an accepted table, what has signalled and what is left are 2^60
+//! together, but for what rounding takes. Prints what it compared, and stops at the first difference.
 use bench::inputs::Source;
+use bench::merge::{merged, met_by, Moves};
 use bench::tally::Tally;
-use bench::{bracket, chart, duncan, large, lent, refuse, rules, table, western_electric, Refusal, Rule, IN_CONTROL, ZONES};
+use bench::{bracket, chart, duncan, large, lent, refuse, rules, table, western_electric, with_nine, Refusal, Rule, IN_CONTROL, ZONES};
 use catrovindy::Figures;
 
 /// What stands in a place that must not be written.
@@ -45,15 +46,17 @@ fn odd_brackets(tally: &mut Tally, source: &mut Source) {
     same_bracket(tally, &chances, n, p);
 }
 
-/// What was met: the rows of all accepted tables; among the tables those where the centre has weight 0, and those of them where it leads to
-/// standings of its own.
+/// What was met: the rows of all accepted tables; the tables with standings that do not differ; those where the centre has weight 0, among
+/// them those where it leads to standings of its own, and those where it alone tells some of the others apart.
 #[derive(Default)]
 struct Met {
     tables: Tally,
     brackets: Tally,
     rows: u64,
+    with_fewer: u64,
     off_centre: u64,
     with_more: u64,
+    told_by_centre: u64,
 }
 
 /// At each n, the chance of a signal by n and what is left are at most 2^60 together, and short of it by at most N units a row, which
@@ -69,17 +72,19 @@ fn by_and_left(met: &mut Met, states: u32, (p, s): (&[u64], &[u64]), call: impl 
     }
 }
 
-/// A zone of weight 0 alters N alone: the table over the other seven zones has the same rows and mean, and no more standings.
-fn same_off_centre(met: &mut Met, rules: &[Rule], others: &[u32; ZONES - 1], all: Figures, (p, s): (&[u64], &[u64])) {
-    let call = || format!("off the centre: {rules:?} {others:?} {}", p.len());
+/// A centre of weight 0 alters N alone: the table of those standings that the other seven zones meet has the same rows and mean, and no more
+/// standings. All eight zones tell standings apart, the centre among them.
+fn same_off_centre(met: &mut Met, moves: &Moves<ZONES>, others: &[u32; ZONES - 1], all: Figures, (p, s): (&[u64], &[u64])) {
+    let call = || format!("off the centre: {others:?} {} over {moves:?}", p.len());
     let (mut p2, mut s2) = (vec![KEPT; p.len()], vec![KEPT; s.len()]);
-    let moves = chart::standings(rules).expect("no more standings than over all zones");
+    let moves: Moves<{ ZONES - 1 }> = met_by(moves);
     let fewer = table::rows(&moves, others, p.len() as u32, &mut p2, &mut s2);
     assert!(p == p2 && s == s2, "the rows, {}", call());
     assert_eq!(Figures { states: all.states, ..fewer }, all, "the figures, {}", call());
     assert!(fewer.states <= all.states, "the standings, {}", call());
     met.off_centre += 1;
     met.with_more += u64::from(fewer.states < all.states);
+    met.told_by_centre += u64::from(merged(&moves).len() < moves.len());
 }
 
 fn same(met: &mut Met, rules: &[Rule], weights: &[u32; ZONES], horizon: u32, lengths: (usize, usize)) {
@@ -101,15 +106,56 @@ fn same(met: &mut Met, rules: &[Rule], weights: &[u32; ZONES], horizon: u32, len
         let (p, s) = (&p[..horizon as usize], &s[..horizon as usize]);
         by_and_left(met, f.states, (p, s), || format!("{rules:?} {weights:?} {horizon}"));
         brackets(&mut met.brackets, p, f.states);
+        let all = chart::standings(rules).expect("accepted");
+        met.with_fewer += u64::from((f.states as usize) < all.len());
         if let [others @ .., 0] = weights {
-            same_off_centre(met, rules, others, f, (p, s));
+            same_off_centre(met, &merged(&all), others, f, (p, s));
         }
     }
 }
 
-/// How many standings a list has over all zones, and over the seven other than the centre.
-fn standings(list: &[Rule]) -> (Result<usize, Refusal>, Result<usize, Refusal>) {
-    (chart::standings::<ZONES>(list).map(|moves| moves.len()), chart::standings::<{ ZONES - 1 }>(list).map(|moves| moves.len()))
+/// How many standings a list has before and after merging.
+fn standings(list: &[Rule]) -> Result<(usize, usize), Refusal> {
+    chart::standings::<ZONES>(list).map(|moves| (moves.len(), merged(&moves).len()))
+}
+
+/// How many the seven zones other than the centre meet: of all standings, and of those that differ.
+fn off_centre(list: &[Rule]) -> (Result<usize, Refusal>, Result<usize, Refusal>) {
+    let before = chart::standings::<{ ZONES - 1 }>(list).map(|moves| moves.len());
+    let after = chart::standings::<ZONES>(list).map(|moves| met_by::<ZONES, { ZONES - 1 }>(&merged(&moves)).len());
+    (before, after)
+}
+
+/// What is known of lists: 10 looks at the first number, the second is N. N is the same for the same rules given twice, and no rule alone has
+/// standings that do not differ.
+fn known_counts(crowded: &[Rule]) {
+    assert_eq!(standings(&western_electric()), Ok((307, 225)));
+    assert_eq!(standings(&with_nine()), Ok((351, 261)));
+    assert_eq!(standings(&duncan()), Ok((17, 15)));
+    assert_eq!(standings(&large()), Ok((1008, 1008)));
+    assert_eq!(standings(&rules(&[(3, 9, 6), (3, 9, 12)])), refuse(10, 0));
+    assert_eq!(standings(&rules(&[(2, 3, 2), (2, 3, 6)])), Ok((5, 3)));
+    assert_eq!(off_centre(&western_electric()), (Ok(295), Ok(215)));
+    assert_eq!(off_centre(&duncan()), (Ok(17), Ok(15)));
+    assert_eq!(off_centre(&large()), (Ok(1008), Ok(1008)));
+    assert_eq!((standings(crowded), off_centre(crowded)), (refuse(10, 0), (Ok(590), refuse(10, 0))));
+    for list in [rules(&[(2, 3, 2), (2, 3, 6)]), rules(&[(4, 5, 96), (4, 5, 6)]), large()] {
+        assert_eq!(standings(&[&list[..], &list].concat()), standings(&list), "{list:?} twice");
+    }
+    for (m, zones) in (1..=9).flat_map(|m| [(m, 6), (m, 127), (m, 255)]) {
+        for k in 1..=m {
+            let alone = standings(&rules(&[(k, m, zones)])).expect("accepted");
+            assert_eq!(alone.0, alone.1, "{k},{m},{zones} alone");
+        }
+    }
+}
+
+/// What is known of Western Electric in control: the last row to 1,000, its chance at, by and left, and the mean.
+fn known_figures() {
+    let (mut p, mut s) = (vec![KEPT; 1_000], vec![KEPT; 1_000]);
+    let figures = lent::table(&western_electric(), &IN_CONTROL, 1_000, &mut p, &mut s).expect("accepted");
+    assert_eq!((p[999], p.iter().sum::<u64>(), s[999]), (160_745_842_270, 1_152_907_420_522_885_295, 14_084_083_854_496));
+    assert_eq!((figures.states, figures.mean_whole, figures.mean_fraction), (225, 91, 864_334_053_807_822_988));
 }
 
 fn main() {
@@ -125,8 +171,11 @@ fn main() {
     }
     // every zone but the centre is in some set of this list, and the centre leads it to more than 1,024 standings
     let crowded = rules(&[(4, 6, 126), (4, 7, 115), (4, 9, 2), (4, 4, 57)]);
-    for list in [western_electric(), duncan(), large(), rules(&[(3, 9, 6), (3, 9, 12)]), crowded.clone()] {
-        for horizon in [1, 2, 4_096, 65_535] {
+    known_counts(&crowded);
+    known_figures();
+    let overlapping = rules(&[(2, 3, 2), (2, 3, 6)]);
+    for list in [western_electric(), with_nine(), duncan(), large(), overlapping, rules(&[(3, 9, 6), (3, 9, 12)]), crowded] {
+        for horizon in [1, 2, 1_000, 4_096, 65_535] {
             let h = horizon as usize;
             same(&mut met, &list, &IN_CONTROL, horizon, (h + 2, h + 1));
             same(&mut met, &list, &IN_CONTROL, horizon, (h - 1, h));
@@ -136,15 +185,15 @@ fn main() {
     for _ in 0..count / 20 {
         odd_brackets(&mut met.brackets, &mut source);
     }
-    assert_eq!(standings(&large()), (Ok(1008), Ok(1008)));
-    assert_eq!(standings(&western_electric()), (Ok(307), Ok(295)));
-    assert_eq!(standings(&duncan()), (Ok(17), Ok(17)));
-    assert_eq!(standings(&crowded), (refuse(10, 0), Ok(590)));
-    let Met { tables, brackets, rows, off_centre, with_more } = met;
-    let centre = format!("{off_centre} with weight 0 on the centre, as over the other seven zones; N is larger in {with_more} of these");
-    let more = format!(" ({centre}), by and left together at most n * N short of 2^60 in each of their {rows} rows");
+    let Met { tables, brackets, rows, with_fewer, off_centre, with_more, told_by_centre } = met;
+    let fewer = format!("{with_fewer} with standings that do not differ");
+    let of_these = format!("N is larger in {with_more} of these, and the centre alone tells standings apart in {told_by_centre}");
+    let centre = format!("{off_centre} with weight 0 on the centre, as over what the other seven zones meet; {of_these}");
+    let more = format!(" ({fewer}; {centre}), by and left together at most n * N short of 2^60 in each of their {rows} rows");
     tables.report("table", &more, &[2, 3, 4, 8, 9, 10, 11]);
     brackets.report("bracket", "", &[12, 13, 14, 15]);
     assert!(rows > 0, "no row was looked at");
-    assert!((off_centre >= 1_000 && with_more >= 300) || count < 20_000, "the centre had weight 0 too seldom");
+    assert!(with_fewer >= 1_000 || count < 20_000, "too few tables had standings that do not differ");
+    let centred = off_centre >= 1_000 && with_more >= 300 && told_by_centre >= 100;
+    assert!(centred || count < 20_000, "the centre had weight 0 too seldom");
 }

@@ -78,10 +78,11 @@ fn main() {
         }
     }
     same(&mut met, &large(), &IN_CONTROL, 65_535, (65_535, 65_535));
-    // every reading clipped at three sigma: the true median is 7, and rounding leaves the table just short of a half there
+    // every reading clipped at three sigma: the true median is 7, where eight in a row cannot have come yet, and rounding leaves the table just
+    // short of a half there
     let clipped = [0, 24_427_768, 145_927_014, 366_516_130, 366_516_130, 145_927_014, 24_427_768, 0];
     for horizon in 1..40 {
-        same(&mut met, &rules(&[(4, 7, 14), (4, 4, 2)]), &clipped, horizon, (40, 40));
+        same(&mut met, &rules(&[(4, 7, 14), (8, 8, 96)]), &clipped, horizon, (40, 40));
     }
     let ([at, between, open, beyond], [without, with]) = (met.kinds, met.spreads);
     let more = format!(" ({at} points, {between} spans, {open} open, {beyond} beyond; {with} interquartile ranges, {without} without)");

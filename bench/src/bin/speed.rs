@@ -23,7 +23,7 @@ fn turns(rounds: u32, mut ours: impl FnMut(), mut theirs: impl FnMut()) -> (f64,
     (0..rounds).map(|_| (time(&mut ours), time(&mut theirs))).fold((f64::INFINITY, f64::INFINITY), |(a, b), (x, y)| (a.min(x), b.min(y)))
 }
 
-/// Whole calls of the table on both sides, from the rules to the last row: exploring, grouping and rows. Answers the units in the last row.
+/// Whole calls of the table on both sides, from the rules to the last row: exploring, merging and rows. Answers the units in the last row.
 fn tables(name: &str, list: &[Rule], weights: &[u32; ZONES], horizon: u32, rounds: u32) -> u64 {
     let h = horizon as usize;
     let (mut p, mut s) = (vec![0u64; h], vec![0u64; h]);
@@ -53,6 +53,34 @@ fn tables(name: &str, list: &[Rule], weights: &[u32; ZONES], horizon: u32, round
 /// The longest table, with units in every row to the last: a row has no more of them than the one before it.
 fn steady(name: &str, list: &[Rule], rounds: u32) {
     assert!(tables(name, list, &STEADY, 65_535, rounds) > 0, "{name}: no units in the last row");
+}
+
+/// The same against a plain table that merges no standings. It has more of them, and other last units.
+fn unmerged(name: &str, list: &[Rule], rounds: u32) {
+    let horizon = 65_535;
+    let h = horizon as usize;
+    let (mut p, mut s) = (vec![0u64; h], vec![0u64; h]);
+    let (mut p2, mut s2) = (vec![0u64; h], vec![0u64; h]);
+    let taken = lent::list(list);
+    let mut counts = (0, 0);
+    let (ours, theirs) = turns(
+        rounds,
+        || {
+            counts.0 = catrovindy::table(&taken, &STEADY, horizon, &mut p, &mut s).expect("accepted").states;
+        },
+        || {
+            counts.1 = table::unmerged(list, &STEADY, horizon, &mut p2, &mut s2).expect("accepted").states;
+        },
+    );
+    assert!(counts.0 <= counts.1 && s[h - 1] > 0 && s2[h - 1] > 0, "{name}: more standings, or no units in the last row");
+    println!(
+        "{name}: {} standings, and {} before merging, {horizon} rows: proved {:.1} ms, 128-bit unmerged {:.1} ms, ratio {:.2}",
+        counts.0,
+        counts.1,
+        ours * 1e3,
+        theirs * 1e3,
+        theirs / ours
+    );
 }
 
 /// The chart of the long series.
@@ -194,11 +222,13 @@ fn main() {
     steady("Western Electric", &western_electric(), 10);
     steady("Duncan", &duncan(), 40);
     steady("3,9 with 3,8", &large(), 5);
+    println!("the same against a plain table over all standings, those that do not differ among them:");
+    unmerged("Western Electric", &western_electric(), 10);
     println!("tables in control, where all units are rounded away before the last row:");
     tables("Western Electric", &western_electric(), &IN_CONTROL, 65_535, 10);
     tables("Duncan", &duncan(), &IN_CONTROL, 65_535, 40);
     tables("3,9 with 3,8", &large(), &IN_CONTROL, 65_535, 5);
-    println!("exploring and one row:");
+    println!("exploring, merging and one row:");
     tables("Western Electric", &western_electric(), &IN_CONTROL, 1, 40);
     tables("3,9 with 3,8", &large(), &IN_CONTROL, 1, 40);
 }
