@@ -135,6 +135,9 @@ fn known_counts(crowded: &[Rule]) {
     assert_eq!(standings(&large()), Ok((1008, 1008)));
     assert_eq!(standings(&rules(&[(3, 9, 6), (3, 9, 12)])), refuse(10, 0));
     assert_eq!(standings(&rules(&[(2, 3, 2), (2, 3, 6)])), Ok((5, 3)));
+    assert_eq!(standings(&rules(&[(5, 9, 6), (5, 9, 2)])), Ok((1001, 126)));
+    // 1,287 before merging, though the second rule never holds without the first, which has 126 alone
+    assert_eq!(standings(&rules(&[(6, 9, 6), (6, 9, 2)])), refuse(10, 0));
     assert_eq!(off_centre(&western_electric()), (Ok(295), Ok(215)));
     assert_eq!(off_centre(&duncan()), (Ok(17), Ok(15)));
     assert_eq!(off_centre(&large()), (Ok(1008), Ok(1008)));
@@ -173,8 +176,9 @@ fn main() {
     let crowded = rules(&[(4, 6, 126), (4, 7, 115), (4, 9, 2), (4, 4, 57)]);
     known_counts(&crowded);
     known_figures();
-    let overlapping = rules(&[(2, 3, 2), (2, 3, 6)]);
-    for list in [western_electric(), with_nine(), duncan(), large(), overlapping, rules(&[(3, 9, 6), (3, 9, 12)]), crowded] {
+    let few = [rules(&[(2, 3, 2), (2, 3, 6)]), rules(&[(5, 9, 6), (5, 9, 2)])];
+    let many = [rules(&[(3, 9, 6), (3, 9, 12)]), rules(&[(6, 9, 6), (6, 9, 2)]), crowded];
+    for list in [western_electric(), with_nine(), duncan(), large()].into_iter().chain(few).chain(many) {
         for horizon in [1, 2, 1_000, 4_096, 65_535] {
             let h = horizon as usize;
             same(&mut met, &list, &IN_CONTROL, horizon, (h + 2, h + 1));
