@@ -208,11 +208,26 @@ fn lists_of_any_length() {
 #[test]
 fn a_table_and_its_bounds() {
     let table = Table::new(&RuleList::western_electric(), &IN_CONTROL, 1000).expect("accepted");
-    assert_eq!(table.figures.states, 307);
+    assert_eq!(table.figures.states, 225);
     let (low, high) = table.signal_by(1000).expect("within the horizon");
-    assert_eq!((low, high - low), (1_152_907_420_522_847_495, 1000 * 308));
+    assert_eq!((low, high - low), (1_152_907_420_522_885_295, 1000 * 226));
     assert_eq!((table.signal_by(0), table.signal_by(1001)), (None, None));
     assert_eq!(refused(table.bracket(100)), (14, 0));
+}
+
+/// Standings from which every continuation first signals at the same point are one in N, so that rules given twice add none. The bound of 1,024
+/// looks at their number before that.
+#[test]
+fn n_is_the_number_of_standings_that_differ() {
+    let states = |rules: &[(u32, u32, u32)]| {
+        let rules: RuleList = rules.iter().map(|&(k, m, zones)| Rule::new(k, m, zones)).collect();
+        Table::new(&rules, &IN_CONTROL, 1).map(|table| table.figures.states)
+    };
+    assert_eq!((states(&[(2, 3, 2)]), states(&[(2, 3, 2), (2, 3, 2)]), states(&[(2, 3, 2), (2, 3, 6)])), (Ok(3), Ok(3), Ok(3)));
+    assert_eq!((states(&[(4, 5, 6)]), states(&[(4, 5, 6), (4, 5, 6)])), (Ok(10), Ok(10)));
+    assert_eq!((states(&[(3, 9, 6), (3, 8, 12)]), refused(states(&[(3, 9, 6), (3, 9, 12)]))), (Ok(1008), (10, 0)));
+    // the second rule never holds without the first; before merging they have 1,001 and 1,287
+    assert_eq!((states(&[(5, 9, 6), (5, 9, 2)]), refused(states(&[(6, 9, 6), (6, 9, 2)]))), (Ok(126), (10, 0)));
 }
 
 /// How much less than 2^60 the chance by n and what is left at n are together.
@@ -221,10 +236,10 @@ fn short_by(table: &Table, n: u32) -> u64 {
     UNITS_PER_ONE.checked_sub(by + table.survival[n as usize - 1]).expect("at most 2^60")
 }
 
-/// Rounding takes at most N units a row: no more than 307,000 by the last of 1,000 rows with Western Electric, and 17,000 with Duncan.
+/// Rounding takes at most N units a row: no more than 225,000 by the last of 1,000 rows with Western Electric, and 15,000 with Duncan.
 #[test]
 fn by_and_left_are_2_to_the_60_but_for_rounding() {
-    for (rules, states, at_last) in [(RuleList::western_electric(), 307, 147_257), (RuleList::duncan(), 17, 9_047)] {
+    for (rules, states, at_last) in [(RuleList::western_electric(), 225, 107_185), (RuleList::duncan(), 15, 7_974)] {
         let table = Table::new(&rules, &IN_CONTROL, 1000).expect("accepted");
         assert_eq!((table.figures.states, short_by(&table, 1000)), (states, at_last));
         for n in 1..=1000 {
@@ -293,9 +308,9 @@ fn a_table_for_a_shifted_core() {
     let by_hand = [24_461_775, 145_927_014, 366_516_130, 366_516_130, 145_927_014, 22_978_326, 1_415_435, 0];
     let shifted = Table::new(&rules, &shift_weights(100).expect("accepted"), 48).expect("accepted");
     assert_eq!(Ok(&shifted), Table::new(&rules, &by_hand, 48).as_ref());
-    assert_eq!(shifted.signal_by(48).map(|(low, _)| low), Some(1_152_186_350_332_113_546));
+    assert_eq!(shifted.signal_by(48).map(|(low, _)| low), Some(1_152_186_350_332_115_070));
     let sound = Table::new(&rules, &shift_weights(0).expect("accepted"), 48).expect("accepted");
-    assert_eq!(sound.signal_by(48).map(|(low, _)| low), Some(459_795_406_632_811_437));
+    assert_eq!(sound.signal_by(48).map(|(low, _)| low), Some(459_795_406_632_812_235));
 }
 
 #[test]

@@ -1,5 +1,6 @@
-// Tries the run-length table on document 01's listing, on the number of states of every rule alone, on the largest lists, and on every
-// refusal with its nearest accepted neighbour. What it prints is compared with the file `stdout`.
+// Tries the run-length table on document 01's listing, on the number of states of every rule alone, on the largest lists, on lists with
+// standings that do not differ, and on every refusal with its nearest accepted neighbour. What it prints is compared with the file
+// `stdout`.
 mod answers;
 mod counts;
 mod listing;
@@ -14,6 +15,10 @@ fn main() {
     counts::every_rule();
     show::text(b"the largest lists\n");
     counts::largest();
+    show::text(b"lists with standings that do not differ\n");
+    counts::merged();
+    show::text(b"rules given twice\n");
+    counts::given_twice();
     show::text(b"refusals\n");
     refusals::refusals();
 }

@@ -47,7 +47,7 @@ fn good() -> RuleList {
     answers::one(Rule::new(2, 2, 2))
 }
 
-// 1,296 states.
+// 1,296 states before merging.
 fn large() -> RuleList {
     answers::list_of(Rule::new(3, 9, 6), Rule::new(3, 9, 12), 2)
 }
