@@ -87,6 +87,7 @@ static void print_percentile(uint32_t percent, uint64_t states) {
 static void plan(void) {
     uint64_t figures[CATROVINDY_FIGURES];
     must(catrovindy_table(rules, rule_count, in_control, HORIZON, pmf, HORIZON, survival, HORIZON, figures));
+    /* N, the number of states that differ: every bound below has it */
     uint64_t states = figures[CATROVINDY_FIGURE_STATES];
     printf("states,%" PRIu64 "\n", states);
     print_by(48, states);

@@ -56,6 +56,7 @@ fn print_percentile(percent: u32, table: &Table) -> Result<(), Refusal> {
 fn plan(in_control: &Weights) -> Result<(), Refusal> {
     let table = Table::new(&RULES, in_control, HORIZON)?;
     let figures = table.figures;
+    // N, the number of states that differ: every bound below has it
     println!("states,{}", figures.states);
     print_by(48, &table);
     print_by(HORIZON, &table);

@@ -53,8 +53,8 @@ extern "C" {
 /* ---- The version */
 
 /* The version of this header, as text and as major * 10000 + minor * 100 + patch. The Rust crate has the same. */
-#define CATROVINDY_VERSION "0.7.0"
-#define CATROVINDY_VERSION_NUMBER 700
+#define CATROVINDY_VERSION "0.8.0"
+#define CATROVINDY_VERSION_NUMBER 800
 
 /* The version of the library, as a number: CATROVINDY_VERSION_NUMBER where the library belongs to this header. It is no code. */
 uint32_t catrovindy_version(void);
@@ -70,7 +70,7 @@ uint32_t catrovindy_version(void);
 #define CATROVINDY_WEIGHT_TOTAL 1073741824            /* 2^30: what the weights of all zones sum to */
 #define CATROVINDY_MAX_SHIFT 150                      /* the largest shift, in hundredths of sigma; the least is its negative */
 #define CATROVINDY_MAX_HORIZON 65535                  /* the largest horizon; the least is 1 */
-#define CATROVINDY_MAX_STATES 1024                    /* the most states of a table */
+#define CATROVINDY_MAX_STATES 1024                    /* the most states of a table's rules, before merging */
 #define CATROVINDY_MAX_COUNT 4294967295u              /* a monitor with this count takes no more points */
 #define CATROVINDY_UNITS_PER_ONE 1152921504606846976u /* 2^60 */
 
@@ -134,7 +134,7 @@ enum {
     CATROVINDY_BAD_COUNT = 7,        /* the count is 4,294,967,295 */
     CATROVINDY_BAD_WEIGHTS = 8,      /* the weights do not sum to 2^30 */
     CATROVINDY_BAD_HORIZON = 9,      /* the horizon is outside 1 to 65,535; in a text, outside 1 to 4,096 */
-    CATROVINDY_BAD_STATE_COUNT = 10, /* the rules have more than 1,024 states */
+    CATROVINDY_BAD_STATE_COUNT = 10, /* the rules have more than 1,024 states before merging */
     CATROVINDY_SHORT_LIST = 11,      /* a lent list is shorter than the horizon */
     CATROVINDY_BAD_LIST = 12,        /* the list of chances is empty, or has more than 65,535 places */
     CATROVINDY_BAD_N = 13,           /* the number of states is outside 1 to 1,024 */
@@ -169,7 +169,7 @@ static inline const char *catrovindy_meaning(uint64_t code) {
     case CATROVINDY_BAD_COUNT: return "The monitor has counted 4,294,967,295 points with no signal, and can count no further.";
     case CATROVINDY_BAD_WEIGHTS: return "The weights of the eight zones do not sum to 2^30, which is 1,073,741,824.";
     case CATROVINDY_BAD_HORIZON: return "The horizon is outside 1 to 65,535, or in a text outside 1 to 4,096.";
-    case CATROVINDY_BAD_STATE_COUNT: return "The rules have more than 1,024 states, too many for a table.";
+    case CATROVINDY_BAD_STATE_COUNT: return "The rules have more than 1,024 states before merging, too many for a table.";
     case CATROVINDY_SHORT_LIST: return "A list that was lent for the table is shorter than the horizon.";
     case CATROVINDY_BAD_LIST: return "The list of chances is empty, or has more than 65,535 places.";
     case CATROVINDY_BAD_N: return "The number of states is outside 1 to 1,024.";
@@ -278,7 +278,8 @@ CATROVINDY_CODE uint64_t catrovindy_shift_weights(int32_t shift, uint32_t weight
 /*
  * The table: for each n from 1 to the horizon the chance that the run length is n, and the chance that no signal has come by n, in units,
  * by sums that are rounded down. The chance of a signal by n is the sum of the first n chances. The exact one is not less, and exceeds
- * it by less than n * (N + 1) units.
+ * it by less than n * (N + 1) units. N is the number of states that differ: two are one where every continuation first signals at the same
+ * point from both. Every zone continues, those of weight 0 too. 10 counts the states before they are merged.
  *   slots, count: the rules.
  *   weights: CATROVINDY_ZONES numbers, by the zones' numbers, so that C0's is the last; a zone's chance is its weight over 2^30. For a
  *     normal reading catrovindy_shift_weights makes them.
@@ -294,7 +295,7 @@ CATROVINDY_CODE uint64_t catrovindy_table(const uint32_t slots[CATROVINDY_AT_LEA
                                           uint64_t figures[CATROVINDY_AT_LEAST CATROVINDY_FIGURES]);
 
 enum {
-    CATROVINDY_FIGURE_STATES = 0,       /* figures[0]: N, the number of states; zones of weight 0 lead to states too */
+    CATROVINDY_FIGURE_STATES = 0,       /* figures[0]: N, the number of states that differ; zones of weight 0 lead to states too */
     CATROVINDY_FIGURE_SURVIVAL = 1,     /* figures[1]: what is left at the horizon, in units */
     CATROVINDY_FIGURE_MEAN_WHOLE = 2,   /* figures[2]: the whole part of the mean run length cut at the horizon */
     CATROVINDY_FIGURE_MEAN_FRACTION = 3 /* figures[3]: its fraction in units. The exact mean is not less, and exceeds this one by at most
@@ -305,7 +306,7 @@ enum {
  * The bracket of a percentile of the run length: it contains the true one, which is the least n by which the exact chance of a signal is
  * at least the percent. For a bracket of a table hand over the first H places of its pmf, and its N.
  *   pmf: `pmf_length` chances.
- *   state_count: N.
+ *   state_count: N, the number of states that differ.
  *   percent: 1 to 99.
  *   answer: CATROVINDY_BRACKET_ANSWER places, written only. Then holds the kind and its two numbers.
  * Refused by 12; 13; 14; 15.

@@ -37,7 +37,7 @@ pub const BATCH_MASK: usize = 2;
 /// In a batch's answer: the number that the next reading would be refused by: 7 where the count is full, else 0.
 pub const BATCH_REFUSAL: usize = 3;
 
-/// In a table's figures: N, the number of states.
+/// In a table's figures: N, the number of states that differ.
 pub const FIGURE_STATES: usize = 0;
 /// In a table's figures: what is left at the horizon, in units.
 pub const FIGURE_SURVIVAL: usize = 1;

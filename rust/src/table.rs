@@ -7,7 +7,7 @@ pub const WEIGHT_TOTAL: u32 = 1 << 30;
 /// The largest horizon; the least is 1.
 pub const MAX_HORIZON: u32 = 65_535;
 
-/// The most states that a table is made for.
+/// The most states of the rules that a table is made for, before merging.
 pub const MAX_STATES: u32 = 1024;
 
 /// The units of a chance of one.
@@ -16,7 +16,8 @@ pub const UNITS_PER_ONE: u64 = 1 << 60;
 /// What a table has besides its two lists.
 #[derive(Clone, Copy, Debug, PartialEq, Eq, Hash)]
 pub struct Figures {
-    /// N, the number of states met with no signal; zones of weight 0 lead to states too.
+    /// N, the number of states that differ, of those met with no signal: two are one where every continuation first signals at the same point
+    /// from both. Every zone continues and leads to states, those of weight 0 too.
     pub states: u32,
     /// The chance of no signal by the horizon, in units.
     pub survival: u64,
@@ -29,7 +30,8 @@ pub struct Figures {
 /// The run-length table in the caller's lists: the chance of a signal at n in `pmf[n - 1]`, of none by n in `survival[n - 1]`, in units, for
 /// n from 1 to the horizon. Both lists are written only; the places beyond the horizon are kept.
 ///
-/// Refused by 2; then rule by rule 3, 4; 8; 9; 10; 11, in this order, and both lists are then as they were.
+/// Refused by 2; then rule by rule 3, 4; 8; 9; 10; 11, in this order, and both lists are then as they were. 10 counts the states before those
+/// that do not differ are merged.
 pub fn table(rules: &RuleList, weights: &Weights, horizon: u32, pmf: &mut [u64], survival: &mut [u64]) -> Result<Figures, Refusal> {
     let (slots, count) = rules.slots();
     let mut figures = [0; raw::FIGURES];
@@ -124,7 +126,7 @@ pub enum Bracket {
     Beyond(u32),
 }
 
-/// The bracket of a percentile, by the chances of a table to its horizon and its number of states.
+/// The bracket of a percentile, by the chances of a table to its horizon and its N, the number of states that differ.
 ///
 /// Refused by 12; 13; 14; 15, in this order.
 ///

@@ -5,7 +5,7 @@ use crate::raw;
 pub const VERSION: &str = env!("CARGO_PKG_VERSION");
 
 /// The version of this crate, as major × 10000 + minor × 100 + patch. The C header has the same.
-pub const VERSION_NUMBER: u32 = 700;
+pub const VERSION_NUMBER: u32 = 800;
 
 /// The version of the library, as a number: [`VERSION_NUMBER`] where the library belongs to this crate.
 ///
