@@ -9,6 +9,6 @@ abbrev pub checkCode : Checked → ℕ
 checkCode Accepted = 0
 checkCode (Refused x) = codeOf x
 
--- 0.7.0
+-- 0.8.0
 abbrev pub version : ℕ
-version = 10000 * 0 + 100 * 7 + 0
+version = 10000 * 0 + 100 * 8 + 0

@@ -17,5 +17,5 @@ pub const KINDS: usize = 6;
 
 pub const VALUES: usize = 13;
 
-// Version 0.7.0: ten thousand times the first number, a hundred times the second, and the third.
-pub const VERSION: u32 = 700;
+// Version 0.8.0: ten thousand times the first number, a hundred times the second, and the third.
+pub const VERSION: u32 = 800;

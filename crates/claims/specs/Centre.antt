@@ -16,7 +16,7 @@ use Rattle.runlength.specs.Listed.{listedChain}
 use Rattle.monitor.specs.Zone.{zoneS, zoneA1, zoneB1, zoneC1, zoneC2, zoneB2, zoneA2, zoneC0}
 use Rattle.monitor.specs.ReferenceChart.{Answer}
 use Rattle.states.specs.States.{states, moves}
-use Rattle.states.specs.Automata.{stateAutomaton}
+use Rattle.table.specs.TableChain.{tableAutomaton}
 use Rattle.claims.specs.Exact.{freeAnswers, isSignal, saysSignal, firstSignal}
 
 -- ---- rules and rows
@@ -59,9 +59,9 @@ drawn rs w p n = sumSequences zoneCount n (λ q. addsToSum rs w (p ++ q))
 
 -- ---- the table of the seven other zones
 
--- the chart moved by them alone: the zones below C0
+-- the chain that the table runs on, moved by them alone: the zones below C0
 abbrev pub withoutCentre : List Rule → Automaton ℕ
-withoutCentre rs = record { start = stateAutomaton rs .start; move = stateAutomaton rs .move; zones = zoneC0 }
+withoutCentre rs = record { start = tableAutomaton rs .start; move = tableAutomaton rs .move; zones = zoneC0 }
 
 -- the chain of the states that they meet
 abbrev pub chainWithoutCentre : List Rule → List ℕ → Chain

@@ -1,6 +1,8 @@
 -- CLAIMS: demand 2, of what the operations' contracts are equations with and for every input: nothing is asked but an accepted call.
 use mathlib.Core.Path.{_≡_, ap, _∙_}
+use mathlib.Core.Bool.{true}
 use mathlib.Core.List.{List, []}
+use mathlib.Core.Logic.{_↔_}
 use Prim.Native.Nat.{ℕ, suc, _/_, _<_}
 use Rattle.rules.specs.declared.RuleList.{RuleList}
 use Rattle.rules.specs.declared.Checked.the-variants.{Accepted}
@@ -9,20 +11,25 @@ use Rattle.runlength.specs.Scale.{weightTotal}
 use Rattle.runlength.specs.Sum.{at, sum}
 use Rattle.runlength.specs.SumLaws.{sum-cong}
 use Rattle.runlength.specs.Chain.{restrictedMean}
+use Rattle.runlength.specs.Future.{EqualFuture}
 use Rattle.monitor.specs.Step.{freshMonitor}
 use Rattle.monitor.specs.Calls.{monitorAnswers}
 use Rattle.monitor.specs.Agreement.{agreement}
+use Rattle.states.specs.States.{Met}
+use Rattle.states.specs.Automata.{stateAutomaton}
+use Rattle.table.specs.TableChain.{exploredCount}
 use Rattle.table.specs.declared.TableFigures.{TableFigures}
 use Rattle.table.specs.declared.TableAnswer.{TableAnswer}
-use Rattle.table.specs.ByState.{overStates, stateSignalled, stateUnits}
+use Rattle.table.specs.ByState.{alikeStates, overStates, stateSignalled, stateUnits}
 use Rattle.table.specs.Table.{TableCall, rulesOf, tableOf, meanOf}
 use Rattle.table.specs.TableChainLaws.{chain-pmf, chain-survival}
+use Rattle.table.specs.FuturesLaws.{alike-exactly}
 use Rattle.table.specs.AcceptedTable.{AcceptedTable}
 use Rattle.table.specs.AcceptedTableLaws.{accepted-table}
 use Rattle.claims.specs.Named.{EachAnswered}
 use Rattle.claims.specs.NamedLaws.{chart-answered}
-use Rattle.claims.specs.Counted.{Counts}
-use Rattle.claims.specs.CountedLaws.{counts}
+use Rattle.claims.specs.Counted.{CountsStates, CountsFutures}
+use Rattle.claims.specs.CountedLaws.{counts-states, counts-futures}
 
 -- ---- the monitor
 
@@ -31,15 +38,24 @@ use Rattle.claims.specs.CountedLaws.{counts}
 pub monitor-names : (l : RuleList) → checkOf l ≡ Accepted → (zs : List ℕ) → EachAnswered (activeRules l) [] zs (monitorAnswers l freshMonitor zs)
 monitor-names l accepted zs = rw (agreement l accepted zs) (chart-answered (activeRules l) [] zs)
 
--- ---- the table: every figure of an accepted call is the one of the round-down steps, by state
+-- ---- the table: every figure of an accepted call is the one of the round-down steps, by state, over the states that differ
 
 module _ (t : TableCall) (f : TableFigures) (accepted : tableOf t .answer ≡ TableAnswer.Accepted f) where
   call : AcceptedTable t f
   call = accepted-table t f accepted
 
-  -- N counts exactly the states of the rows that all zone sequences with no signal make.
-  pub states-counted : Counts (rulesOf t) (f .«state_count»)
-  states-counted = rw (call .count-is) (counts (rulesOf t) (call .chart .bounds) (call .chart .few))
+  -- The number that 10 looks at counts exactly the states of the rows that all zone sequences with no signal make, before any is merged.
+  pub explored-counted : CountsStates (rulesOf t) (exploredCount (rulesOf t))
+  explored-counted = counts-states (rulesOf t) (call .chart .bounds) (call .chart .few)
+
+  -- N counts exactly the futures that these rows have.
+  pub states-counted : CountsFutures (rulesOf t) (f .«state_count»)
+  states-counted = rw (call .count-is) (counts-futures (rulesOf t) (call .chart .bounds) (call .chart .few))
+
+  -- Two states that zone sequences meet with no signal are alike, so taken as one, exactly where they have equal futures.
+  pub alike-futures : {r s : ℕ} → Met (stateAutomaton (rulesOf t)) r → Met (stateAutomaton (rulesOf t)) s
+      → (alikeStates (rulesOf t) r s ≡ true) ↔ EqualFuture (stateAutomaton (rulesOf t)) (stateAutomaton (rulesOf t)) r s
+  alike-futures p q = alike-exactly (rulesOf t) (call .chart .few) p q
 
   -- The chance at n + 1 is what the states signal then, divided once.
   pub chance-by-state : (n : ℕ) → n < t .horizon

@@ -15,7 +15,7 @@ use Rattle.runlength.specs.Chain.{Chain, pmf, survival, restrictedMean}
 use Rattle.monitor.specs.Zone.{zoneC0}
 use Rattle.table.specs.declared.TableFigures.{TableFigures}
 use Rattle.table.specs.declared.TableAnswer.{TableAnswer}
-use Rattle.table.specs.TableChain.{stateCount, chainMoves, tableAutomaton, tableChain}
+use Rattle.table.specs.TableChain.{tableAutomaton, tableChain}
 use Rattle.table.specs.Table.{TableCall, rulesOf, tableOf, meanOf}
 use Rattle.table.specs.AcceptedTable.{AcceptedTable}
 use Rattle.table.specs.AcceptedTableLaws.{accepted-table}
@@ -92,15 +92,16 @@ module _ (t : TableCall) (f : TableFigures) (accepted : tableOf t .answer ≡ Ta
   call = accepted-table t f accepted
 
   same-pmf : (n : ℕ) → pmf (tableChain (rulesOf t) (t .weights)) n ≡ pmf seven n
-  unfolding tableAutomaton stateCount chainMoves
+  unfolding tableAutomaton
   same-pmf n = inside-pmf (inside-all (rulesOf t) (call .chart .few)) (at (t .weights)) weightless n
 
   same-survival : (n : ℕ) → survival (tableChain (rulesOf t) (t .weights)) n ≡ survival seven n
-  unfolding tableAutomaton stateCount chainMoves
+  unfolding tableAutomaton
   same-survival n = inside-survival (inside-all (rulesOf t) (call .chart .few)) (at (t .weights)) weightless n
 
   -- Every chance of an accepted table, all that is left and the cut mean are, to the last unit, those of the round-down
-  -- steps over the states that the seven other zones meet. N alone, and what goes by it, may be larger.
+  -- steps over the states that the seven other zones meet, among those that differ by all eight. N alone, and what goes by
+  -- it, may be larger.
   pub weightless-chance : (n : ℕ) → n < t .horizon → at (tableOf t .pmfList) n ≡ pmf seven (suc n)
   weightless-chance n i = call .pmf-at n i ∙ same-pmf (suc n)
 
@@ -115,5 +116,4 @@ module _ (t : TableCall) (f : TableFigures) (accepted : tableOf t .answer ≡ Ta
   weightless-cut-mean = call .mean-is ∙ sum-cong (t .horizon) _ _ (λ n i. same-survival n)
 
   pub weightless-count : seven .size ≤ f .«state_count»
-  unfolding stateCount
-  weightless-count = rw (call .count-is) (no-more-states (rulesOf t) (call .chart .few))
+  weightless-count = rw (call .count-is) (no-more-states (rulesOf t))

@@ -5,6 +5,7 @@ pub mod Table
 pub mod ChartChecked
 pub mod AcceptedTable
 pub mod TableChainLaws
+pub mod FuturesLaws
 pub mod ChartLaws
 pub mod ChartCheckedLaws
 pub mod PrefixLaws

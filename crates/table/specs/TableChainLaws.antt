@@ -15,7 +15,7 @@ use Rattle.rules.specs.declared.Rule.{Rule}
 use Rattle.rules.specs.Bounds.{zoneCount, maxStates}
 use Rattle.rules.specs.InBounds.{AllInBounds}
 use Rattle.runlength.specs.Scale.{weightTotal, unitsPerOne}
-use Rattle.runlength.specs.Sum.{at, sum, only}
+use Rattle.runlength.specs.Sum.{at, sum, only, tab}
 use Rattle.runlength.specs.SumLaws.{sum-cong}
 use Rattle.runlength.specs.Automaton.{Automaton, Move, quiet, signal, after}
 use Rattle.runlength.specs.Chain.{Proper, inflow, signalled, units, pmf, survival}
@@ -29,7 +29,8 @@ use Rattle.runlength.specs.Merged.{leaderFor, leadsFor, leadersFor, classCount,
 use Rattle.runlength.specs.ClassLaws.{leader-same, same-leader}
 use Rattle.runlength.specs.MergedLaws.{class-start, class-same, first-of, sum-classes}
 use Rattle.runlength.specs.MergedLaws as merged
-use Rattle.runlength.specs.ListedLaws.{listed-proper}
+use Rattle.runlength.specs.Fewest.{HoldsStates}
+use Rattle.runlength.specs.ListedLaws.{listed-proper, listed-holds}
 use Rattle.states.specs.States.{states, moves}
 use Rattle.states.specs.Automata.{stateAutomaton, referenceAutomaton}
 use Rattle.states.specs.AutomataLaws.{explored-reference}
@@ -64,18 +65,23 @@ module _ (rs : List Rule) where
   unfolding tableAutomaton
   chain-proper w weights = listed-proper zoneCount (stateCount rs) (chainMoves rs) (at w) count-some weights
 
+  -- its states are the numbers below N
+  pub chain-holds : HoldsStates (tableAutomaton rs) (tab (stateCount rs) (λ i. i))
+  unfolding tableAutomaton
+  chain-holds = listed-holds zoneCount (stateCount rs) (chainMoves rs) count-some
+
   -- the places of the explored states, and their moves
-  abbrev met : List ℕ
+  abbrev pub met : List ℕ
   met = states (stateAutomaton rs)
 
-  abbrev n : ℕ
+  abbrev pub n : ℕ
   n = length met
 
-  abbrev given : Automaton ℕ
+  abbrev pub given : Automaton ℕ
   given = givenChart n (moves (stateAutomaton rs))
 
   module _ (few : exploredCount rs ≤ maxStates) where
-    few-met : n ≤ maxStates
+    pub few-met : n ≤ maxStates
     unfolding exploredCount
     few-met = few
 
@@ -97,7 +103,7 @@ module _ (rs : List Rule) where
     standing i l = record { below = l; is = refl }
 
     -- states are alike exactly where their places are
-    alike-places : (i j : ℕ) → i < n → j < n → alikeFor given n i j ≡ alikeStates rs (at met i) (at met j)
+    pub alike-places : (i j : ℕ) → i < n → j < n → alikeFor given n i j ≡ alikeStates rs (at met i) (at met j)
     unfolding alikeStates
     alike-places i j h l =
         simulation-alike given (stateAutomaton rs) (At met) (explored-simulation (stateAutomaton rs) few-met) n i j (at met i) (at met j)
