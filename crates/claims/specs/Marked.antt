@@ -1,7 +1,8 @@
 -- CLAIM: document 01's marked examples, one table with one proof: what the operations' definitions give, and what the paper says.
-use mathlib.Core.Path.{_≡_, refl}
+use mathlib.Core.Path.{_≡_, refl, ap₂, _∙_}
 use mathlib.Core.List.{List, [], _∷_}
 use Prim.Native.Nat.{ℕ, _-_, _/_, _^_}
+use native.Mathlib.Omega.{arith}
 use lib.IntN.{pos}
 use Rattle.rules.specs.declared.RuleList.{RuleList}
 use Rattle.rules.specs.Check.{noRule, activeRules, rulesFrom, checkRules, checkOf}
@@ -17,6 +18,14 @@ use Rattle.monitor.specs.Zone.{zoneOf}
 use Rattle.monitor.specs.Window.{hitsUpTo, live}
 use Rattle.monitor.specs.State.{holding, nextState, moveOf}
 use Rattle.states.specs.States.{placeOf, withState, enter, busy, due, next, turns, explored, states, moves}
+use Rattle.states.specs.Automata.{stateAutomaton}
+use Rattle.runlength.specs.Lowest.{lowest}
+use Rattle.runlength.specs.Alike.{allOf, alikeFor}
+use Rattle.runlength.specs.Merged.{leaderFor, leadersFor, classCount, classOf, firstOf, mergedMove}
+use Rattle.merge.specs.Merge.{mergedCount, mergedMoves}
+use Rattle.merge.specs.Rounds.{agreeing, nextLeader}
+use Rattle.merge.specs.Numbering.{ledBefore}
+use Rattle.merge.specs.NumberingLaws.{rounds, count-rounds}
 use Rattle.table.specs.declared.TableAnswer.{TableAnswer}
 use Rattle.table.specs.TableChain.{exploredCount, stateCount, chainMoves, tableAutomaton}
 use Rattle.table.specs.Table.{chartCheck, tableCheck, TableResult, tableCall, tableOf}
@@ -53,9 +62,9 @@ tableFor l = tableOf (tableCall l halves 4 empty empty)
 abbrev listing : RuleList
 listing = oneRule 2 2 2
 
--- the rows; `pick` takes what is given, or what the paper says
-abbrev pub marked : (Figure → Figure → Figure) → List Figure
-marked pick =
+-- the rows; `pick` takes what is given, or what the paper says; N for 2,3 and for 4,5 is given by its value
+abbrev rows : ℕ → ℕ → (Figure → Figure → Figure) → List Figure
+rows count-2-3 count-4-5 pick =
     -- zones with centre 100 and step 10: S, A1, C0, C2, S
     pick (zone (zoneOf (pos 131) (pos 100) 10)) (zone (Zone 0))
     ∷ pick (zone (zoneOf (pos 130) (pos 100) 10)) (zone (Zone 1))
@@ -63,8 +72,8 @@ marked pick =
     ∷ pick (zone (zoneOf (pos 99) (pos 100) 10)) (zone (Zone 4))
     ∷ pick (zone (zoneOf (pos 69) (pos 100) 10)) (zone (Zone 0))
     -- N for 2,3 and for 4,5
-    ∷ pick (number (stateCount (activeRules (oneRule 2 3 6)))) (number 3)
-    ∷ pick (number (stateCount (activeRules (oneRule 4 5 6)))) (number 10)
+    ∷ pick (number count-2-3) (number 3)
+    ∷ pick (number count-4-5) (number 10)
     -- the listing: chance and left, N, left at 4 and the cut mean
     ∷ pick (pmfs (tableFor listing .pmfList)) (pmfs (0 ∷ 288230376151711744 ∷ 144115188075855872 ∷ 144115188075855872 ∷ []))
     ∷ pick (survivals (tableFor listing .survivalList)) (survivals (1152921504606846976 ∷ 864691128455135232 ∷ 720575940379279360 ∷ 576460752303423488 ∷ []))
@@ -79,8 +88,26 @@ marked pick =
     ∷ pick (pmfs (tableFor (oneRule 2 3 2) .pmfList)) (pmfs (0 ∷ (unitsPerOne / 4) ∷ (unitsPerOne / 4) ∷ (unitsPerOne / 8) ∷ []))
     ∷ []
 
-pub marked-examples : marked (λ given said. given) ≡ marked (λ given said. said)
+abbrev pub marked : (Figure → Figure → Figure) → List Figure
+marked pick = rows (stateCount (activeRules (oneRule 2 3 6))) (stateCount (activeRules (oneRule 4 5 6))) pick
+
+-- N of one rule, by the rounds that tell its states apart
+count-2-3 : stateCount (activeRules (oneRule 2 3 6)) ≡ 3
+unfolding exploredCount stateCount rounds nextLeader agreeing lowest allOf ledBefore states moves explored turns next due busy enter withState placeOf
+    moveOf nextState holding maskOf live hitsUpTo rulesFrom tab sum
+count-2-3 = count-rounds (exploredCount (activeRules (oneRule 2 3 6))) (moves (stateAutomaton (activeRules (oneRule 2 3 6)))) (omega arith)
+
+count-4-5 : stateCount (activeRules (oneRule 4 5 6)) ≡ 10
+unfolding exploredCount stateCount rounds nextLeader agreeing lowest allOf ledBefore states moves explored turns next due busy enter withState placeOf
+    moveOf nextState holding maskOf live hitsUpTo rulesFrom tab sum
+count-4-5 = count-rounds (exploredCount (activeRules (oneRule 4 5 6))) (moves (stateAutomaton (activeRules (oneRule 4 5 6)))) (omega arith)
+
+evaluated : rows 3 10 (λ given said. given) ≡ rows 3 10 (λ given said. said)
 unfolding zoneOf exploredCount stateCount chainMoves tableAutomaton states moves explored turns next due busy enter withState placeOf moveOf nextState holding maskOf live hitsUpTo
+    mergedCount mergedMoves classCount classOf firstOf mergedMove leaderFor leadersFor alikeFor allOf lowest
     tableOf tableCheck chartCheck checkOf checkRules rulesFrom front tab sum pmf survival restrictedMean units inflow signalled
     bracketOf percentilePlace placeBy cdfOf reaches passes least
-marked-examples = refl
+evaluated = refl
+
+pub marked-examples : marked (λ given said. given) ≡ marked (λ given said. said)
+marked-examples = ap₂ (λ a b. rows a b (λ given said. given)) count-2-3 count-4-5 ∙ evaluated

@@ -13,15 +13,15 @@ use lib.Seq.{getD-set-same, getD-set-other}
 use Rattle.rules.specs.Bounds.{zoneCount, maxStates}
 use Rattle.runlength.specs.Sum.{at, sum, only, tab, front}
 use Rattle.runlength.specs.SumLaws.{sum-cong, sum-more, sum-upto, sum-le, sum-const}
-use Rattle.runlength.specs.TabLaws.{tab-cong}
+use Rattle.runlength.specs.TabLaws.{getD-tab, tab-cong}
 use Rattle.runlength.specs.Automaton.{Move, quiet, signal, after}
 use Rattle.runlength.specs.Listed.{entryMove}
 use Rattle.runlength.specs.Merged.{leaderFor, leadersFor, classCount, classOf, firstOf, mergedMove}
 use Rattle.runlength.specs.ClassLaws.{leader-most, leader-leads}
 use Rattle.runlength.specs.MergedLaws.{class-leads, count-most, FirstOf, first-of}
 use Rattle.merge.specs.Merge.{entryOf, givenChart, mergedCount, mergedMoves, Mergeable}
-use Rattle.merge.specs.Rounds.{labelOf, HasRoom, HoldsLeaders}
-use Rattle.merge.specs.RoundsLaws.{none-held}
+use Rattle.merge.specs.Rounds.{labelOf, nextLeader, HasRoom, HoldsLeaders}
+use Rattle.merge.specs.RoundsLaws.{none-held, next-leader}
 use Rattle.merge.specs.Numbering.{ledBefore, Led, Numbered, Numberable, CanNumber, carried, Carriable}
 
 -- ---- one state more
@@ -77,23 +77,26 @@ module _ {l classes firsts : List ℕ} {i count : ℕ} (p : CanNumber l classes 
           rw (d, sym (p .so-far .counted)) (getD-set-same firsts count i 0 (omega (arith, count-fits, p .firsts-room)))
 
   -- another one
-  pub number-other : (at l i ≡ i → ⊥) → Numbered l (set classes i (at classes (at l i))) firsts (i + 1) count
-  number-other e = record {
+  pub number-other : (leader : ℕ) → leader ≡ at l i → (leader ≡ i → ⊥) → Numbered l (set classes i (at classes leader)) firsts (i + 1) count
+  number-other leader q other = record {
     counted = omega (arith, p .so-far .counted, led-none l i e);
     class-is = λ s h. class s h (decLt s i);
     first-is = λ s h f. first s h f (decLt s i);
   }
     where
-      before : at l i < i
+      e : at l i ≡ i → ⊥
+      e d = other (q ∙ d)
+
+      before : leader < i
       before = omega (arith, p .led .most)
 
-      class : (s : ℕ) → s < i + 1 → Dec (s < i) → at (set classes i (at classes (at l i))) s ≡ ledBefore l (at l s)
-      class s h (yes k) = getD-set-other classes i s (at classes (at l i)) 0 (omega arith) ∙ p .so-far .class-is s k
+      class : (s : ℕ) → s < i + 1 → Dec (s < i) → at (set classes i (at classes leader)) s ≡ ledBefore l (at l s)
+      class s h (yes k) = getD-set-other classes i s (at classes leader) 0 (omega arith) ∙ p .so-far .class-is s k
       class s h (no k) =
           let d : s ≡ i = omega arith in
           rw d
-          (getD-set-same classes i (at classes (at l i)) 0 (p .classes-room) ∙ p .so-far .class-is (at l i) before
-          ∙ ap (ledBefore l) (p .led .leads))
+          (getD-set-same classes i (at classes leader) 0 (p .classes-room) ∙ p .so-far .class-is leader before
+          ∙ ap (λ x. ledBefore l (at l x)) q ∙ ap (ledBefore l) (p .led .leads))
 
       first : (s : ℕ) → s < i + 1 → at l s ≡ s → Dec (s < i) → at firsts (ledBefore l s) ≡ s
       first s h f (yes k) = p .so-far .first-is s k f
@@ -189,7 +192,7 @@ module _ {n : ℕ} {m l : List ℕ} (p : HoldsLeaders n m l n) where
     unfolding front mergedMoves mergedMove
     carried-moves before after e =
         let same : (k : ℕ) → k < zoneCount * mergedCount n m
-            → carried n m classes firsts k ≡ entryOf (mergedMove (givenChart n m) n (k / zoneCount) (k % zoneCount)) =
+        → carried n m classes firsts k ≡ entryOf (mergedMove (givenChart n m) n (k / zoneCount) (k % zoneCount)) =
         λ k h.
         ap (λ s. labelOf n classes (at m (zoneCount * s + k % zoneCount))) (numbered-first (k / zoneCount) (omega arith))
         ∙ label-entry (at m (zoneCount * firstOf (givenChart n m) n (k / zoneCount) + k % zoneCount)) in
@@ -229,3 +232,21 @@ module _ {n : ℕ} {m merged : List ℕ} (p : Mergeable n m merged) where
     classes-room = omega (arith, p .few, length-replicate {A = ℕ} maxStates 0);
     firsts-room = omega (arith, p .few, length-replicate {A = ℕ} maxStates 0);
   }
+
+-- ---- by evaluation: the lists of leaders, one round after the other
+
+unfoldable pub rounds : ℕ → List ℕ → ℕ → List ℕ
+rounds n m zero = tab n (λ i. 0)
+rounds n m (suc k) = tab n (nextLeader n m (rounds n m k))
+
+rounds-hold : (n : ℕ) (m : List ℕ) → n ≤ maxStates → (k : ℕ) → HoldsLeaders n m (rounds n m k) k
+unfolding rounds
+rounds-hold n m few zero = none-held (λ i h. getD-tab n (λ i. 0) i h)
+rounds-hold n m few (suc k) =
+    let p = rounds-hold n m few k in
+    record { is = λ i h. getD-tab n (nextLeader n m (rounds n m k)) i h ∙ next-leader few p i }
+
+-- so many states lead after as many rounds as there are states
+pub count-rounds : (n : ℕ) (m : List ℕ) → n ≤ maxStates → mergedCount n m ≡ ledBefore (rounds n m n) n
+unfolding mergedCount classCount
+count-rounds n m few = sym (led-leaders (rounds-hold n m few n) n (le-refl n))

@@ -10,7 +10,13 @@ ghost use Rattle.runlength.specs.Sum.{front};
 ghost use Rattle.merge.specs.Numbering.{Numbered, Numberable, CanNumber, carried, Carriable};
 
 // State i gets its class: a new one where it leads, else that of its leader. The number of classes after it.
-fn number_state(leaders: &[u16], classes: &mut [u16], firsts: &mut [u16], i: usize, count: usize) -> usize
+fn number_state(
+    leaders: &[u16],
+    classes: &mut [u16],
+    firsts: &mut [u16],
+    i: usize,
+    count: usize,
+) -> usize
     requires { ⌜ CanNumber (now leaders) (now classes) (now firsts) i count ⌝ }
     ensures { λ r. ⌜ Numbered (now (leaders .entry)) (now (classes .exit)) (now (firsts .exit)) (i + 1) r ⌝ }
     ensures { λ r. ⌜ (length (now (classes .exit)) ≡ length (now (classes .entry))) × (length (now (firsts .exit)) ≡ length (now (firsts .entry))) ⌝ }
@@ -41,7 +47,14 @@ pub(crate) fn number(leaders: &[u16], n: usize, classes: &mut [u16], firsts: &mu
 }
 
 // The moves of the classes: those of their first states, carried over to classes.
-pub(crate) fn carry(moves: &[u16], n: usize, classes: &[u16], firsts: &[u16], count: usize, merged: &mut [u16])
+pub(crate) fn carry(
+    moves: &[u16],
+    n: usize,
+    classes: &[u16],
+    firsts: &[u16],
+    count: usize,
+    merged: &mut [u16],
+)
     requires { ⌜ Carriable n (now moves) (now classes) (now firsts) (now merged) count ⌝ }
     ensures { λ r. ⌜ now (merged .exit)
         ≡ front (zoneCount * count) (carried n (now (moves .entry)) (now (classes .entry)) (now (firsts .entry))) (now (merged .entry)) ⌝ }

@@ -57,13 +57,9 @@ module _ (l : RuleList) (w : List ℕ) (h : ℕ) where
           -- 10
           pub too-many-states : maxStates < exploredCount (activeRules l) → chartCheck l w h ≡ Refused tooManyStates
           unfolding chartCheck
-          too-many-states n = rw (
-            rules,
-            eq-eqb (sum zoneCount (at w)) weightTotal weights,
-            le-leb minHorizon h low,
-            le-leb h maxHorizon high,
-            lt-leb (exploredCount (activeRules l)) maxStates n,
-          )
+          too-many-states n =
+              rw (rules, eq-eqb (sum zoneCount (at w)) weightTotal weights, le-leb minHorizon h low, le-leb h maxHorizon high)
+              (ap (λ b. unless b tooManyStates) (lt-leb (exploredCount (activeRules l)) maxStates n))
 
           -- none of them
           pub chart-passes : exploredCount (activeRules l) ≤ maxStates → chartCheck l w h ≡ Accepted

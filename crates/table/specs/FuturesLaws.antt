@@ -62,10 +62,11 @@ module _ (rs : List Rule) (few : exploredCount rs ≤ maxStates) where
   alike-exactly {s} {t} a b =
       let p = place a in
       let q = place b in
-      let same = rw (p .1 .is, q .1 .is) at (alike-places rs few (p .0) (q .0) (p .1 .below) (q .1 .below)) in
-      (λ e. from-places (p .1) (q .1)
-      (leader-future (given rs) (n rs) closed (p .0) (q .0) (p .1 .below) (q .1 .below) (same-leader (given rs) (n rs) (p .0) (q .0) (same ∙ e))),
-      λ e. sym same ∙ future-alike (given rs) (n rs) (p .0) (q .0) (to-places (p .1) (q .1) e))
+      let same = rw (p .1 .is, q .1 .is) at (alike-places rs few (p .0) (q .0) (p .1 .below) (q .1 .below)) in (
+        λ e. from-places (p .1) (q .1)
+            (leader-future (given rs) (n rs) closed (p .0) (q .0) (p .1 .below) (q .1 .below) (same-leader (given rs) (n rs) (p .0) (q .0) (same ∙ e))),
+        λ e. sym same ∙ future-alike (given rs) (n rs) (p .0) (q .0) (to-places (p .1) (q .1) e),
+      )
 
   -- ---- one state of each future
 
@@ -96,9 +97,12 @@ module _ (rs : List Rule) (few : exploredCount rs ≤ maxStates) where
       let p = place m in
       let c = classOf (given rs) (n rs) (p .0) in
       let h = class-below (given rs) (n rs) (p .0) (p .1 .below) in
-      let f = first-of (given rs) (n rs) c h in
-      (c, h, from-places (p .1) (standing c h)
-      (class-future (given rs) (n rs) closed (p .0) (firstOf (given rs) (n rs) c) (p .1 .below) (f .below) .0 (sym (f .class))))
+      let f = first-of (given rs) (n rs) c h in (
+        c,
+        h,
+        from-places (p .1) (standing c h)
+            (class-future (given rs) (n rs) closed (p .0) (firstOf (given rs) (n rs) c) (p .1 .below) (f .below) .0 (sym (f .class))),
+      )
 
   -- ---- fewest
 

@@ -68,7 +68,8 @@ fn explored_chart(
     if n > RuleList::MAX_STATES {
         return refused(Refusal::STATES);
     }
-    ChartAnswer::Accepted(merge::merge(&explored, n, moves))
+    let count = merge::merge(&explored, n, moves);
+    ChartAnswer::Accepted(count)
 }
 
 // A chart: 2, 3, 4; 8; 9; 10, or the number of states that differ, with their moves in the list. For the crates of this repository: it has a

@@ -17,7 +17,7 @@ index-requires : tie.Need-index-requires
 index-requires c κs = tt
 
 cast-firsts : tie.Need-cast-firsts
-cast-firsts c = record { fits = omega (arith, c .before .before .before .before .before .before .pre .few) }
+cast-firsts c = record { fits = omega (arith, c .before .before .before .before .before .before .pre .few, count-fits (c .before .before .before .before .before .before .pre)) }
 
 mul-firsts : tie.Need-mul-firsts
 mul-firsts c = record { fits = omega (arith, c .before .before .before .before .before .before .pre .few, count-fits (c .before .before .before .before .before .before .pre)) }
@@ -38,10 +38,10 @@ add-result : tie.Need-add-result
 add-result c = record { fits = omega (arith, c .before .before .before .before .before .before .pre .few, count-fits (c .before .before .before .before .before .before .pre)) }
 
 same-length : tie.Need-same-length
-same-length c = let a = c .before .before .before .before .before .before .args in length-set (a .classes .now) (a .i) (a .count)
+same-length c = search needs
 
 same-length-2 : tie.Need-same-length-2
-same-length-2 c = let a = c .before .before .before .before .before .before .args in length-set (a .firsts .now) (a .count) (a .i)
+same-length-2 c = search needs
 
 returns : tie.Need-returns
 returns c = let a = c .before .before .before .before .before .before .args in (number-first (c .before .before .before .before .before .before .pre) (sym (c .before .index .ensures) ∙ c .if1 .taken), (length-set (a .classes .now) (a .i) (a .count), length-set (a .firsts .now) (a .count) (a .i)))
@@ -59,10 +59,10 @@ slice-write-classes-2 : tie.Need-slice-write-classes-2
 slice-write-classes-2 c = c .before .before .before .before .before .before .before .pre .classes-room
 
 same-length-3 : tie.Need-same-length-3
-same-length-3 c = let a = c .before .before .before .before .before .before .before .args in length-set (a .classes .now) (a .i) (getD (a .classes .now) (c .before .before .index .result) 0)
+same-length-3 c = search needs
 
 returns-2 : tie.Need-returns-2
-returns-2 c = let a = c .before .before .before .before .before .before .before .args in (rw (c .before .before .index .ensures) (number-other (c .before .before .before .before .before .before .before .pre) (λ e. c .before .if1 .left (c .before .before .index .ensures ∙ e))), (length-set (a .classes .now) (a .i) (getD (a .classes .now) (c .before .before .index .result) 0), refl))
+returns-2 c = let a = c .before .before .before .before .before .before .before .args in (number-other (c .before .before .before .before .before .before .before .pre) (c .before .before .index .result) (c .before .before .index .ensures) (c .before .if1 .left), (length-set (a .classes .now) (a .i) (getD (a .classes .now) (c .before .before .index .result) 0), refl))
 
 pub number-state-spec : {M : Type 1} → statement M
 number-state-spec =
