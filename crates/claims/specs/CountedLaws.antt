@@ -104,5 +104,6 @@ module _ (rs : List Rule) (bounds : AllInBounds rs) where
               (future-trans chart plain chart (future-sym plain chart (class-row c h)) (future-trans plain plain chart e (class-row d l)));
           all = λ r q.
               let o = classes-all rs few (quiet-met q) in
-              (o .0, o .1, future-trans plain chart plain (row-future q) (future-trans chart chart plain (o .2) (future-sym plain chart (class-row (o .0) (o .1)))));
+              let back = future-sym plain chart (class-row (o .0) (o .1)) in
+              (o .0, o .1, future-trans plain chart plain (row-future q) (future-trans chart chart plain (o .2) back));
         }

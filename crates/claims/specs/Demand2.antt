@@ -1,5 +1,5 @@
 -- CLAIMS: demand 2, of what the operations' contracts are equations with and for every input: nothing is asked but an accepted call.
-use mathlib.Core.Path.{_≡_, ap, _∙_}
+use mathlib.Core.Path.{_≡_, _∙_}
 use mathlib.Core.Bool.{true}
 use mathlib.Core.List.{List, []}
 use mathlib.Core.Logic.{_↔_}

@@ -10,7 +10,7 @@ pub mod CountedLaws
 pub mod Demand1
 pub mod Demand2
 pub mod Demand3
-pub mod Fewest
+pub mod FewestStates
 pub mod Centre
 pub mod InsideLaws
 pub mod WithoutCentreLaws

@@ -20,11 +20,10 @@ use Rattle.monitor.specs.State.{holding, nextState, moveOf}
 use Rattle.states.specs.States.{placeOf, withState, enter, busy, due, next, turns, explored, states, moves}
 use Rattle.states.specs.Automata.{stateAutomaton}
 use Rattle.runlength.specs.Lowest.{lowest}
-use Rattle.runlength.specs.Alike.{allOf, alikeFor}
-use Rattle.runlength.specs.Merged.{leaderFor, leadersFor, classCount, classOf, firstOf, mergedMove}
+use Rattle.runlength.specs.Apart.{allOf, alikeFor}
+use Rattle.runlength.specs.Merged.{leadBefore, leaderFor, classCount, classOf, firstOf, mergedMove}
 use Rattle.merge.specs.Merge.{mergedCount, mergedMoves}
 use Rattle.merge.specs.Rounds.{agreeing, nextLeader}
-use Rattle.merge.specs.Numbering.{ledBefore}
 use Rattle.merge.specs.NumberingLaws.{rounds, count-rounds}
 use Rattle.table.specs.declared.TableAnswer.{TableAnswer}
 use Rattle.table.specs.TableChain.{exploredCount, stateCount, chainMoves, tableAutomaton}
@@ -93,18 +92,18 @@ marked pick = rows (stateCount (activeRules (oneRule 2 3 6))) (stateCount (activ
 
 -- N of one rule, by the rounds that tell its states apart
 count-2-3 : stateCount (activeRules (oneRule 2 3 6)) ≡ 3
-unfolding exploredCount stateCount rounds nextLeader agreeing lowest allOf ledBefore states moves explored turns next due busy enter withState placeOf
+unfolding exploredCount stateCount rounds nextLeader agreeing lowest allOf leadBefore states moves explored turns next due busy enter withState placeOf
     moveOf nextState holding maskOf live hitsUpTo rulesFrom tab sum
 count-2-3 = count-rounds (exploredCount (activeRules (oneRule 2 3 6))) (moves (stateAutomaton (activeRules (oneRule 2 3 6)))) (omega arith)
 
 count-4-5 : stateCount (activeRules (oneRule 4 5 6)) ≡ 10
-unfolding exploredCount stateCount rounds nextLeader agreeing lowest allOf ledBefore states moves explored turns next due busy enter withState placeOf
+unfolding exploredCount stateCount rounds nextLeader agreeing lowest allOf leadBefore states moves explored turns next due busy enter withState placeOf
     moveOf nextState holding maskOf live hitsUpTo rulesFrom tab sum
 count-4-5 = count-rounds (exploredCount (activeRules (oneRule 4 5 6))) (moves (stateAutomaton (activeRules (oneRule 4 5 6)))) (omega arith)
 
 evaluated : rows 3 10 (λ given said. given) ≡ rows 3 10 (λ given said. said)
 unfolding zoneOf exploredCount stateCount chainMoves tableAutomaton states moves explored turns next due busy enter withState placeOf moveOf nextState holding maskOf live hitsUpTo
-    mergedCount mergedMoves classCount classOf firstOf mergedMove leaderFor leadersFor alikeFor allOf lowest
+    mergedCount mergedMoves classCount classOf firstOf mergedMove leaderFor leadBefore alikeFor allOf lowest
     tableOf tableCheck chartCheck checkOf checkRules rulesFrom front tab sum pmf survival restrictedMean units inflow signalled
     bracketOf percentilePlace placeBy cdfOf reaches passes least
 evaluated = refl

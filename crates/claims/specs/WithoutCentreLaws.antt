@@ -1,6 +1,6 @@
 -- The states that the seven zones below C0 meet are among the chain's; so the table of the seven is inside that of the eight. Laws.
 use Prim.Native.Nat.{ℕ, _+_, _*_, _≤_, _<_}
-use mathlib.Core.Path.{_≡_, refl, sym}
+use mathlib.Core.Path.{refl, sym}
 use mathlib.Core.List.{List}
 use native.Mathlib.Omega.{arith}
 use lib.ListN.{length}

@@ -1,22 +1,21 @@
 -- What the loops of a round know after each turn. Laws.
-use Prim.Native.Nat.{ℕ, suc, _+_, _-_, _*_, _≤_, _<_}
-use mathlib.Core.Path.{_≡_, refl, sym, ap, _∙_}
-use mathlib.Core.Bool.{Bool, true, false, cond, _&&_, and-false}
+use Prim.Native.Nat.{ℕ, _+_, _-_, _*_, _≤_, _<_}
+use mathlib.Core.Path.{_≡_, refl, sym, _∙_}
+use mathlib.Core.Bool.{true, false}
 use mathlib.Core.List.{List}
 use native.Mathlib.Omega.{arith}
 use native.Mathlib.Numerals.{add-one}
 use native.Mathlib.Decide.{decLt}
 use borrow.Author.Tests.{lt-ltb, le-ltb, eq-eqb, ne-eqb}
-use lib.Dec.{eqb, ltb}
+use lib.Dec.{eqb}
 use Rattle.rules.specs.Bounds.{zoneCount, maxStates}
-use lib.ListN.{length, set, length-set}
-use Rattle.runlength.specs.Sum.{at, sum, front}
+use lib.ListN.{set, length-set}
+use Rattle.runlength.specs.Sum.{at}
 use Rattle.runlength.specs.SumLaws.{sum-zero, sum-more}
 use Rattle.runlength.specs.TabLaws.{front-none, front-more}
-use Rattle.runlength.specs.Lowest.{lowest, Lowest}
 use Rattle.runlength.specs.LowestLaws.{lowest-found}
-use Rattle.runlength.specs.Alike.{allOf}
-use Rattle.runlength.specs.AlikeLaws.{all-fails}
+use Rattle.runlength.specs.Apart.{allOf}
+use Rattle.runlength.specs.ApartLaws.{all-fails}
 use Rattle.merge.specs.Rounds.{labelOf, agreeing, nextLeader, Skips, Refinable, Refined}
 
 -- ---- a label

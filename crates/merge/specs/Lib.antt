@@ -6,4 +6,4 @@ pub mod RoundsLaws
 pub mod AgreeLaws
 pub mod Numbering
 pub mod NumberingLaws
-pub mod PrefixLaws
+pub mod OwnMovesLaws

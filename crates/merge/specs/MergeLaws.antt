@@ -1,21 +1,19 @@
 -- The list of the merged moves is the merged chart, state by state and zone by zone. Laws.
 use Prim.Native.Nat.{ℕ, _+_, _*_, _/_, _%_, _≤_, _<_}
 use mathlib.Core.Path.{_≡_, refl, sym, ap₂, _∙_}
-use mathlib.Core.Bool.{Bool, true, false, cond}
 use mathlib.Core.List.{List}
 use native.Mathlib.Omega.{arith}
 use borrow.Author.Tests.{lt-ltb, le-ltb}
-use lib.Dec.{ltb}
 use lib.ListN.{length}
 use Rattle.rules.specs.Bounds.{zoneCount, maxStates}
-use Rattle.runlength.specs.Sum.{at, tab}
+use Rattle.runlength.specs.Sum.{at}
 use Rattle.runlength.specs.TabLaws.{length-tab, getD-tab}
 use Rattle.runlength.specs.Automaton.{Move, quiet, signal, after}
 use Rattle.runlength.specs.Listed.{entryMove, listedAutomaton}
 use Rattle.runlength.specs.ListedLaws.{entry-in}
-use Rattle.runlength.specs.Future.{Alike, Simulation, EqualFuture}
+use Rattle.runlength.specs.Future.{Alike, EqualFuture}
 use Rattle.runlength.specs.FutureLaws.{simulation-future, future-trans}
-use Rattle.runlength.specs.Merged.{classCount, classOf, firstOf, mergedMove, mergedAutomaton}
+use Rattle.runlength.specs.Merged.{classOf, firstOf, mergedMove, mergedAutomaton}
 use Rattle.runlength.specs.MergedLaws.{class-below, count-most, first-of, merged-future}
 use Rattle.merge.specs.Merge.{entryOf, givenChart, mergedCount, mergedMoves}
 

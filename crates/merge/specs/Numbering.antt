@@ -2,15 +2,11 @@
 use Prim.Native.Nat.{ℕ, _+_, _*_, _/_, _%_, _≤_, _<_}
 use mathlib.Core.Path.{_≡_}
 use mathlib.Core.List.{List}
-use lib.Dec.{eqb}
 use lib.ListN.{length}
 use Rattle.rules.specs.Bounds.{zoneCount, maxStates}
-use Rattle.runlength.specs.Sum.{at, sum, only}
+use Rattle.runlength.specs.Sum.{at}
+use Rattle.runlength.specs.Merged.{leadBefore}
 use Rattle.merge.specs.Rounds.{labelOf}
-
--- how many of the states below i lead
-unfoldable pub ledBefore : List ℕ → ℕ → ℕ
-ledBefore leaders i = sum i (λ j. only (eqb (at leaders j) j) 1)
 
 -- a state's leader is not after it, and leads
 pub record Led (leaders : List ℕ) (i : ℕ) : Type 0 where
@@ -19,9 +15,9 @@ pub record Led (leaders : List ℕ) (i : ℕ) : Type 0 where
 
 -- the first i states have their classes, and the classes so far, `count` of them, their first states
 pub record Numbered (leaders classes firsts : List ℕ) (i count : ℕ) : Type 0 where
-  pub counted : count ≡ ledBefore leaders i
-  pub class-is : (s : ℕ) → s < i → at classes s ≡ ledBefore leaders (at leaders s)
-  pub first-is : (s : ℕ) → s < i → at leaders s ≡ s → at firsts (ledBefore leaders s) ≡ s
+  pub counted : count ≡ leadBefore (at leaders) i
+  pub class-is : (s : ℕ) → s < i → at classes s ≡ leadBefore (at leaders) (at leaders s)
+  pub first-is : (s : ℕ) → s < i → at leaders s ≡ s → at firsts (leadBefore (at leaders) s) ≡ s
 
 -- what numbering n states asks for
 pub record Numberable (n : ℕ) (leaders classes firsts : List ℕ) : Type 0 where

@@ -1,77 +1,51 @@
 -- One state more is numbered; and numbered by their leaders, the classes are those of the merged chart. Laws.
 use Prim.Native.Nat.{ℕ, zero, suc, _+_, _*_, _/_, _%_, _≤_, _<_}
-use mathlib.Core.Path.{_≡_, refl, sym, ap, ap₂, _∙_}
-use mathlib.Core.Bool.{Bool, true, false, cond}
+use mathlib.Core.Path.{_≡_, refl, sym, ap, _∙_}
 use mathlib.Core.List.{List, _++_}
 use native.Mathlib.Omega.{arith}
 use native.Mathlib.Nat.{le-refl}
 use native.Mathlib.Decide.{decLt}
-use borrow.Author.Tests.{eq-eqb, ne-eqb, lt-ltb, le-ltb}
-use lib.Dec.{eqb, ltb}
+use borrow.Author.Tests.{lt-ltb, le-ltb}
 use lib.ListN.{length, set, drop, replicate, length-replicate, getD-replicate}
 use lib.Seq.{getD-set-same, getD-set-other}
 use Rattle.rules.specs.Bounds.{zoneCount, maxStates}
-use Rattle.runlength.specs.Sum.{at, sum, only, tab, front}
-use Rattle.runlength.specs.SumLaws.{sum-cong, sum-more, sum-upto, sum-le, sum-const}
+use Rattle.runlength.specs.Sum.{at, sum, tab, front}
 use Rattle.runlength.specs.TabLaws.{getD-tab, tab-cong}
-use Rattle.runlength.specs.Automaton.{Move, quiet, signal, after}
+use Rattle.runlength.specs.Automaton.{quiet, signal, after}
 use Rattle.runlength.specs.Listed.{entryMove}
-use Rattle.runlength.specs.Merged.{leaderFor, leadersFor, classCount, classOf, firstOf, mergedMove}
+use Rattle.runlength.specs.Merged.{leadBefore, leaderFor, leadersFor, classCount, classOf, firstOf, mergedMove}
+use Rattle.runlength.specs.LeadLaws.{lead-one, lead-none, lead-less, lead-most, lead-cong}
 use Rattle.runlength.specs.ClassLaws.{leader-most, leader-leads}
-use Rattle.runlength.specs.MergedLaws.{class-leads, count-most, FirstOf, first-of}
+use Rattle.runlength.specs.MergedLaws.{class-leads, count-most, first-of}
 use Rattle.merge.specs.Merge.{entryOf, givenChart, mergedCount, mergedMoves, Mergeable}
 use Rattle.merge.specs.Rounds.{labelOf, nextLeader, HasRoom, HoldsLeaders}
 use Rattle.merge.specs.RoundsLaws.{none-held, next-leader}
-use Rattle.merge.specs.Numbering.{ledBefore, Led, Numbered, Numberable, CanNumber, carried, Carriable}
+use Rattle.merge.specs.Numbering.{Led, Numbered, Numberable, CanNumber, carried, Carriable}
 
 -- ---- one state more
 
-module _ (l : List ℕ) where
-  led-one : (i : ℕ) → at l i ≡ i → ledBefore l (i + 1) ≡ ledBefore l i + 1
-  unfolding ledBefore
-  led-one i e =
-      let one : only (eqb (at l i) i) 1 ≡ 1 = ap (λ b. only b 1) (eq-eqb (at l i) i e) in
-      omega (arith, sum-more i (λ j. only (eqb (at l j) j) 1))
-
-  led-none : (i : ℕ) → (at l i ≡ i → ⊥) → ledBefore l (i + 1) ≡ ledBefore l i
-  unfolding ledBefore
-  led-none i e =
-      let none : only (eqb (at l i) i) 1 ≡ 0 = ap (λ b. only b 1) (ne-eqb (at l i) i e) in
-      omega (arith, sum-more i (λ j. only (eqb (at l j) j) 1))
-
-  led-less : (s i : ℕ) → at l s ≡ s → s < i → ledBefore l s < ledBefore l i
-  unfolding ledBefore
-  led-less s i e h = omega (arith, led-one s e, sum-upto (s + 1) i (λ j. only (eqb (at l j) j) 1) (omega arith))
-
-  pub led-most : (i : ℕ) → ledBefore l i ≤ i
-  unfolding ledBefore
-  led-most i = omega (arith, sum-le i (λ j. only (eqb (at l j) j) 1) (λ j. 1) (λ j h. one (eqb (at l j) j)), sum-const i 1)
-    where
-      one : (b : Bool) → only b 1 ≤ 1
-      one true = le-refl 1
-      one false = omega arith
-
 module _ {l classes firsts : List ℕ} {i count : ℕ} (p : CanNumber l classes firsts i count) where
   pub count-fits : count ≤ i
-  count-fits = omega (arith, p .so-far .counted, led-most l i)
+  count-fits = omega (arith, p .so-far .counted, lead-most (at l) i)
 
   -- the first of a class
   pub number-first : at l i ≡ i → Numbered l (set classes i count) (set firsts count i) (i + 1) (count + 1)
   number-first e = record {
-    counted = omega (arith, p .so-far .counted, led-one l i e);
+    counted = omega (arith, p .so-far .counted, lead-one (at l) i e);
     class-is = λ s h. class s h (decLt s i);
     first-is = λ s h f. first s h f (decLt s i);
   }
     where
-      class : (s : ℕ) → s < i + 1 → Dec (s < i) → at (set classes i count) s ≡ ledBefore l (at l s)
+      class : (s : ℕ) → s < i + 1 → Dec (s < i) → at (set classes i count) s ≡ leadBefore (at l) (at l s)
       class s h (yes k) = getD-set-other classes i s count 0 (omega arith) ∙ p .so-far .class-is s k
       class s h (no k) =
           let d : s ≡ i = omega arith in
-          rw d (getD-set-same classes i count 0 (p .classes-room) ∙ p .so-far .counted ∙ ap (ledBefore l) (sym e))
+          rw d (getD-set-same classes i count 0 (p .classes-room) ∙ p .so-far .counted ∙ ap (leadBefore (at l)) (sym e))
 
-      first : (s : ℕ) → s < i + 1 → at l s ≡ s → Dec (s < i) → at (set firsts count i) (ledBefore l s) ≡ s
+      first : (s : ℕ) → s < i + 1 → at l s ≡ s → Dec (s < i) → at (set firsts count i) (leadBefore (at l) s) ≡ s
       first s h f (yes k) =
-          getD-set-other firsts count (ledBefore l s) i 0 (omega (arith, led-less l s i f k, p .so-far .counted)) ∙ p .so-far .first-is s k f
+          getD-set-other firsts count (leadBefore (at l) s) i 0 (omega (arith, lead-less (at l) s i f k, p .so-far .counted))
+          ∙ p .so-far .first-is s k f
       first s h f (no k) =
           let d : s ≡ i = omega arith in
           rw (d, sym (p .so-far .counted)) (getD-set-same firsts count i 0 (omega (arith, count-fits, p .firsts-room)))
@@ -79,7 +53,7 @@ module _ {l classes firsts : List ℕ} {i count : ℕ} (p : CanNumber l classes 
   -- another one
   pub number-other : (leader : ℕ) → leader ≡ at l i → (leader ≡ i → ⊥) → Numbered l (set classes i (at classes leader)) firsts (i + 1) count
   number-other leader q other = record {
-    counted = omega (arith, p .so-far .counted, led-none l i e);
+    counted = omega (arith, p .so-far .counted, lead-none (at l) i e);
     class-is = λ s h. class s h (decLt s i);
     first-is = λ s h f. first s h f (decLt s i);
   }
@@ -90,22 +64,22 @@ module _ {l classes firsts : List ℕ} {i count : ℕ} (p : CanNumber l classes 
       before : leader < i
       before = omega (arith, p .led .most)
 
-      class : (s : ℕ) → s < i + 1 → Dec (s < i) → at (set classes i (at classes leader)) s ≡ ledBefore l (at l s)
+      class : (s : ℕ) → s < i + 1 → Dec (s < i) → at (set classes i (at classes leader)) s ≡ leadBefore (at l) (at l s)
       class s h (yes k) = getD-set-other classes i s (at classes leader) 0 (omega arith) ∙ p .so-far .class-is s k
       class s h (no k) =
           let d : s ≡ i = omega arith in
           rw d
           (getD-set-same classes i (at classes leader) 0 (p .classes-room) ∙ p .so-far .class-is leader before
-          ∙ ap (λ x. ledBefore l (at l x)) q ∙ ap (ledBefore l) (p .led .leads))
+          ∙ ap (λ x. leadBefore (at l) (at l x)) q ∙ ap (leadBefore (at l)) (p .led .leads))
 
-      first : (s : ℕ) → s < i + 1 → at l s ≡ s → Dec (s < i) → at firsts (ledBefore l s) ≡ s
+      first : (s : ℕ) → s < i + 1 → at l s ≡ s → Dec (s < i) → at firsts (leadBefore (at l) s) ≡ s
       first s h f (yes k) = p .so-far .first-is s k f
       first s h f (no k) = let d : s ≡ i = omega arith in absurd (e (rw d at f))
 
 -- ---- all states
 
 pub numbered-none : (l classes firsts : List ℕ) → Numbered l classes firsts 0 0
-unfolding ledBefore sum
+unfolding leadBefore sum
 numbered-none l classes firsts =
     record { counted = refl; class-is = λ s h. absurd (omega arith); first-is = λ s h e. absurd (omega arith) }
 
@@ -121,12 +95,14 @@ module _ {n : ℕ} {l classes₀ firsts₀ classes firsts : List ℕ} {i count :
     so-far = q;
   }
 
-pub numbered-all : {n : ℕ} {l classes firsts : List ℕ} {i count : ℕ} → Numbered l classes firsts i count → i ≡ n → Numbered l classes firsts n count
+pub numbered-all : {n : ℕ} {l classes firsts : List ℕ} {i count : ℕ} → Numbered l classes firsts i count → i ≡ n
+    → Numbered l classes firsts n count
 numbered-all q e = rw e at q
 
 -- ---- an entry of the merged moves
 
-module _ {n : ℕ} {m classes firsts merged : List ℕ} {count : ℕ} (p : Carriable n m classes firsts merged count) (k : ℕ) (h : k < zoneCount * count) where
+module _ {n : ℕ} {m classes firsts merged : List ℕ} {count : ℕ} (p : Carriable n m classes firsts merged count) (k : ℕ)
+    (h : k < zoneCount * count) where
   class-in : k / zoneCount < count
   class-in = omega arith
 
@@ -139,7 +115,7 @@ module _ {n : ℕ} {m classes firsts merged : List ℕ} {count : ℕ} (p : Carri
 -- ---- by the leaders of all continuations
 
 module _ {n : ℕ} {m l : List ℕ} (p : HoldsLeaders n m l n) where
-  pub leaders-led : (i : ℕ) → i < n → Led l i
+  leaders-led : (i : ℕ) → i < n → Led l i
   leaders-led i h =
       let most = leader-most (givenChart n m) n i in
       record {
@@ -147,9 +123,8 @@ module _ {n : ℕ} {m l : List ℕ} (p : HoldsLeaders n m l n) where
         leads = rw (p .is i h) (p .is (leaderFor (givenChart n m) n i) (omega arith) ∙ leader-leads (givenChart n m) n i);
       }
 
-  led-leaders : (i : ℕ) → i ≤ n → ledBefore l i ≡ leadersFor (givenChart n m) n i
-  unfolding ledBefore leadersFor
-  led-leaders i h = sum-cong i _ _ (λ j k. ap (λ x. only (eqb x j) 1) (p .is j (omega arith)))
+  led-leaders : (i : ℕ) → i ≤ n → leadBefore (at l) i ≡ leadersFor (givenChart n m) n i
+  led-leaders i h = lead-cong (at l) (leaderFor (givenChart n m) n) i (λ j k. p .is j (omega arith))
 
   module _ {classes firsts : List ℕ} {count : ℕ} (q : Numbered l classes firsts n count) where
     -- so many classes
@@ -161,7 +136,7 @@ module _ {n : ℕ} {m l : List ℕ} (p : HoldsLeaders n m l n) where
     unfolding classOf
     numbered-class i h =
         let most = leader-most (givenChart n m) n i in
-        q .class-is i h ∙ ap (ledBefore l) (p .is i h) ∙ led-leaders (leaderFor (givenChart n m) n i) (omega arith)
+        q .class-is i h ∙ ap (leadBefore (at l)) (p .is i h) ∙ led-leaders (leaderFor (givenChart n m) n i) (omega arith)
 
     -- the first state of a class
     numbered-first : (c : ℕ) → c < mergedCount n m → at firsts c ≡ firstOf (givenChart n m) n c
@@ -169,7 +144,7 @@ module _ {n : ℕ} {m l : List ℕ} (p : HoldsLeaders n m l n) where
     numbered-first c h =
         let f = first-of (givenChart n m) n c h in
         let s = firstOf (givenChart n m) n c in
-        let number : ledBefore l s ≡ c =
+        let number : leadBefore (at l) s ≡ c =
         led-leaders s (omega (arith, f .below)) ∙ sym (class-leads (givenChart n m) n s (f .leads)) ∙ f .class in
         ap (at firsts) (sym number) ∙ q .first-is s (f .below) (p .is s (f .below) ∙ f .leads)
 
@@ -247,6 +222,6 @@ rounds-hold n m few (suc k) =
     record { is = λ i h. getD-tab n (nextLeader n m (rounds n m k)) i h ∙ next-leader few p i }
 
 -- so many states lead after as many rounds as there are states
-pub count-rounds : (n : ℕ) (m : List ℕ) → n ≤ maxStates → mergedCount n m ≡ ledBefore (rounds n m n) n
+pub count-rounds : (n : ℕ) (m : List ℕ) → n ≤ maxStates → mergedCount n m ≡ leadBefore (at (rounds n m n)) n
 unfolding mergedCount classCount
 count-rounds n m few = sym (led-leaders (rounds-hold n m few n) n (le-refl n))

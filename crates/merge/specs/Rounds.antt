@@ -8,7 +8,7 @@ use lib.ListN.{length}
 use Rattle.rules.specs.Bounds.{zoneCount, maxStates}
 use Rattle.runlength.specs.Sum.{at, sum, front}
 use Rattle.runlength.specs.Lowest.{lowest}
-use Rattle.runlength.specs.Alike.{allOf}
+use Rattle.runlength.specs.Apart.{allOf}
 use Rattle.runlength.specs.Merged.{leaderFor}
 use Rattle.merge.specs.Merge.{givenChart}
 

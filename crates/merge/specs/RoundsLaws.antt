@@ -1,23 +1,22 @@
 -- A round looks one point further ahead; the first round that moves no leader is the last. Laws.
 use Prim.Native.Nat.{ℕ, suc, _+_, _-_, _*_, _≤_, _<_}
-use mathlib.Core.Path.{_≡_, refl, sym, ap, ap₂, _∙_}
+use mathlib.Core.Path.{_≡_, refl, sym, ap, _∙_}
 use mathlib.Core.Bool.{Bool, true, false, cond}
 use mathlib.Core.List.{List}
 use native.Mathlib.Omega.{arith}
 use native.Mathlib.Numerals.{add-one}
-use borrow.Author.Tests.{ltb-true, ltb-false, eq-eqb, ne-eqb, eqb-true}
+use borrow.Author.Tests.{ltb-true, eq-eqb, ne-eqb, eqb-true}
 use lib.Dec.{eqb, ltb}
 use lib.ListN.{length}
 use Rattle.rules.specs.Bounds.{zoneCount, maxStates}
 use Rattle.runlength.specs.Sum.{at, sum, front}
 use Rattle.runlength.specs.TabLaws.{front-at}
 use Rattle.runlength.specs.SumLaws.{sum-term}
-use Rattle.runlength.specs.Automaton.{Move, quiet, signal}
+use Rattle.runlength.specs.Automaton.{quiet, signal}
 use Rattle.runlength.specs.Listed.{entryMove}
-use Rattle.runlength.specs.Lowest.{lowest}
 use Rattle.runlength.specs.LowestLaws.{lowest-cong, lowest-zero}
-use Rattle.runlength.specs.Alike.{allOf, alikeMoves, alikeFor}
-use Rattle.runlength.specs.AlikeLaws.{same-test-by, all-cong}
+use Rattle.runlength.specs.Apart.{alikeMoves, alikeFor}
+use Rattle.runlength.specs.ApartLaws.{same-test-by, all-cong}
 use Rattle.runlength.specs.Merged.{leaderFor}
 use Rattle.runlength.specs.ClassLaws.{leader-lowest, leader-most, same-leader, leader-same, leader-later, same-settled, settled-leader}
 use Rattle.merge.specs.Merge.{givenChart}
@@ -70,7 +69,7 @@ module _ {n : ℕ} {m l : List ℕ} {k : ℕ} (few : n ≤ maxStates) (p : Holds
   next-most i = omega (arith, next-leader i, leader-most (givenChart n m) (suc k) i)
 
   -- what the next round leaves
-  pub next-holds : (l′ : List ℕ) → ((i : ℕ) → i < n → at l′ i ≡ nextLeader n m l i) → HoldsLeaders n m l′ (k + 1)
+  next-holds : (l′ : List ℕ) → ((i : ℕ) → i < n → at l′ i ≡ nextLeader n m l i) → HoldsLeaders n m l′ (k + 1)
   next-holds l′ e = record { is = λ i h. rw (add-one k) (e i h ∙ next-leader i) }
 
   -- where no leader has moved, these are the leaders by as many points as there are states

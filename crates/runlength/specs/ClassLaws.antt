@@ -6,17 +6,18 @@ use mathlib.Core.Logic.{_⊎_, inl, inr}
 use native.Mathlib.Omega.{arith}
 use native.Mathlib.Nat.{le-refl, add-zero, add-suc, add-comm}
 use native.Mathlib.Decide.{decLt, decLe}
-use borrow.Author.Tests.{eq-eqb, eqb-true, ne-eqb}
+use borrow.Author.Tests.{eq-eqb, eqb-true}
 use lib.Dec.{eqb}
-use Rattle.runlength.specs.Sum.{sum, only}
-use Rattle.runlength.specs.SumLaws.{sum-le, sum-const, sum-term, sum-tight}
+use Rattle.runlength.specs.Sum.{only}
+use Rattle.runlength.specs.SumLaws.{sum-term, sum-tight}
 use Rattle.runlength.specs.Automaton.{Automaton, Move, quiet, signal}
 use Rattle.runlength.specs.Future.{EqualFuture}
 use Rattle.runlength.specs.Lowest.{Lowest}
 use Rattle.runlength.specs.LowestLaws.{lowest-is}
-use Rattle.runlength.specs.Alike.{alikeMoves, alikeFor}
-use Rattle.runlength.specs.AlikeLaws.{true-not-false, alike-refl, alike-sym, alike-trans, alike-less, alike-fewer, alike-step, step-alike, alike-future, future-alike}
-use Rattle.runlength.specs.Merged.{leaderFor, leadsFor, leadersFor}
+use Rattle.runlength.specs.Apart.{alikeMoves, alikeFor}
+use Rattle.runlength.specs.ApartLaws.{true-not-false, alike-refl, alike-sym, alike-trans, alike-less, alike-fewer, alike-step, step-alike, alike-future, future-alike}
+use Rattle.runlength.specs.Merged.{leadBefore, leaderFor, leadsFor, leadersFor}
+use Rattle.runlength.specs.LeadLaws.{lead-most}
 
 module _ (a : Automaton ℕ) where
   module _ (k : ℕ) where
@@ -77,15 +78,6 @@ module _ (a : Automaton ℕ) where
       let r = leaderFor a (suc k) i in
       let q = same-leader k r i (alike-less a k r i (leader-alike (suc k) i)) in
       omega (arith, leader-most k r)
-
-  -- no more states lead than there are
-  pub leaders-most : (k i : ℕ) → leadersFor a k i ≤ i
-  unfolding leadersFor
-  leaders-most k i = omega (arith, sum-le i (λ j. only (leadsFor a k j) 1) (λ j. 1) (λ j h. one (leadsFor a k j)), sum-const i 1)
-    where
-      one : (b : Bool) → only b 1 ≤ 1
-      one true = le-refl 1
-      one false = omega arith
 
   -- ---- n states, which no quiet move leaves
 
@@ -148,7 +140,7 @@ module _ (a : Automaton ℕ) where
 
     -- where no more lead, no leader changes
     stall : (k : ℕ) → leadersFor a (suc k) n ≤ leadersFor a k n → Settled k
-    unfolding leadersFor
+    unfolding leadBefore
     stall k few = same-settled k (λ i h. go i h)
       where
         led : (i : ℕ) → i < n → leaderFor a (suc k) i ≡ i → leaderFor a k i ≡ i
@@ -165,7 +157,7 @@ module _ (a : Automaton ℕ) where
             sym (led r (omega arith) (leader-leads (suc k) i)) ∙ same-leader k r i (alike-less a k r i (leader-alike (suc k) i))
 
     climbs : 0 < n → (k : ℕ) → Settled k ⊎ (k < leadersFor a k n)
-    unfolding leadersFor
+    unfolding leadBefore
     climbs some zero =
         let one : only (leadsFor a 0 0) 1 ≡ 1 = ap (λ b. only b 1) (eq-eqb (leaderFor a 0 0) 0 (first-leads 0)) in
         inr (omega (arith, sum-term n 0 (λ j. only (leadsFor a 0 j) 1) some))
@@ -182,7 +174,7 @@ module _ (a : Automaton ℕ) where
       where
         go : Settled n ⊎ (n < leadersFor a n n) → Settled n
         go (inl p) = p
-        go (inr l) = absurd (omega (arith, leaders-most n n))
+        go (inr l) = absurd (omega (arith, lead-most (leaderFor a n) n))
 
     -- two of the n states have the same first state exactly where they have equal futures
     pub leader-future : (i j : ℕ) → i < n → j < n → leaderFor a n i ≡ leaderFor a n j → EqualFuture a a i j

@@ -1,4 +1,4 @@
--- When two states, of one chart or of two, have the same future. Working definitions.
+-- TO BELIEVE: when two states, of one chart or of two, have the same future, and a relation that shows it. Definitions.
 use mathlib.Core.Path.{_≡_}
 use Prim.Native.Nat.{ℕ, _<_}
 use mathlib.Core.List.{List}

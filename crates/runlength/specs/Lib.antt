@@ -18,11 +18,12 @@ pub mod MeanLaws
 pub mod RestrictedMean
 pub mod Future
 pub mod FutureLaws
-pub mod Alike
-pub mod AlikeLaws
+pub mod Apart
+pub mod ApartLaws
 pub mod Lowest
 pub mod LowestLaws
 pub mod Merged
+pub mod LeadLaws
 pub mod ClassLaws
 pub mod Fewest
 pub mod FewestLaws

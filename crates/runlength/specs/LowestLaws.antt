@@ -1,5 +1,5 @@
 -- `lowest` finds the least number that passes the test, and there is one such. Laws.
-use Prim.Native.Nat.{ℕ, zero, suc, _≤_, _<_}
+use Prim.Native.Nat.{ℕ, zero, suc, _<_}
 use mathlib.Core.Path.{_≡_, refl, sym, _∙_}
 use mathlib.Core.Bool.{Bool, true, false, cond}
 use native.Mathlib.Omega.{arith}
@@ -7,7 +7,7 @@ use native.Mathlib.Nat.{le-refl}
 use native.Mathlib.Decide.{decLt}
 use borrow.Author.Tests.{ltb-true, ltb-false}
 use lib.Dec.{ltb}
-use Rattle.runlength.specs.AlikeLaws.{true-not-false}
+use Rattle.runlength.specs.ApartLaws.{true-not-false}
 use Rattle.runlength.specs.Lowest.{lowest, Lowest}
 
 pub lowest-is : (f : ℕ → Bool) (n : ℕ) → Lowest f n (lowest f n)

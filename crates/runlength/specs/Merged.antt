@@ -5,7 +5,11 @@ use lib.Dec.{eqb}
 use Rattle.runlength.specs.Sum.{sum, only}
 use Rattle.runlength.specs.Automaton.{Automaton, Move, quiet, signal, after}
 use Rattle.runlength.specs.Lowest.{lowest}
-use Rattle.runlength.specs.Alike.{alikeFor}
+use Rattle.runlength.specs.Apart.{alikeFor}
+
+-- how many of the numbers below i lead, where each is led by a number
+unfoldable pub leadBefore : (ℕ → ℕ) → ℕ → ℕ
+leadBefore leader i = sum i (λ j. only (eqb (leader j) j) 1)
 
 module _ (a : Automaton ℕ) (k : ℕ) where
   -- the first of the states that continuations of up to k points do not tell from i
@@ -17,8 +21,8 @@ module _ (a : Automaton ℕ) (k : ℕ) where
   leadsFor i = eqb (leaderFor i) i
 
   -- how many of the states below i are the first of their class
-  unfoldable pub leadersFor : ℕ → ℕ
-  leadersFor i = sum i (λ j. only (leadsFor j) 1)
+  abbrev pub leadersFor : ℕ → ℕ
+  leadersFor i = leadBefore leaderFor i
 
 -- the states of the chart are the numbers below n: as many points as there are states tell apart all that differ
 module _ (a : Automaton ℕ) (n : ℕ) where

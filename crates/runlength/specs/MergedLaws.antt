@@ -1,5 +1,5 @@
--- The merged states: two states are in one class exactly where they have equal futures; the merged chart has the future of the chart, and no
--- two of its states have the same; so no chart that first signals on the same sequences has fewer states. Laws.
+-- The merged states: two states are in one class exactly where they have equal futures; the merged chart has the future of the chart; and no
+-- chart that first signals on the same sequences has fewer states. Laws.
 use Prim.Native.Nat.{ℕ, zero, suc, _+_, _≤_, _<_}
 use mathlib.Core.Path.{_≡_, refl, sym, ap, _∙_}
 use mathlib.Core.Bool.{Bool, true, false}
@@ -7,48 +7,25 @@ use mathlib.Core.Logic.{_↔_}
 use mathlib.Core.List.{List}
 use native.Mathlib.Omega.{arith}
 use native.Mathlib.Nat.{le-refl, add-zero}
-use native.Mathlib.Numerals.{add-one}
 use native.Mathlib.Decide.{decLt}
-use borrow.Author.Tests.{eq-eqb, eqb-true, eqb-false, ne-eqb}
+use borrow.Author.Tests.{eq-eqb, eqb-true, ne-eqb}
 use lib.Dec.{eqb}
 use lib.ListN.{length}
 use Rattle.runlength.specs.Sum.{sum, only}
-use Rattle.runlength.specs.SumLaws.{sum-upto, sum-more}
+use Rattle.runlength.specs.SumLaws.{sum-more}
 use Rattle.runlength.specs.Automaton.{Automaton, Move, quiet, signal, after}
 use Rattle.runlength.specs.Future.{Alike, EqualFuture, Simulation}
-use Rattle.runlength.specs.FutureLaws.{simulation-future, future-step, future-sym, future-trans}
-use Rattle.runlength.specs.Lowest.{Lowest}
-use Rattle.runlength.specs.LowestLaws.{lowest-is, lowest-found}
-use Rattle.runlength.specs.AlikeLaws.{true-not-false}
-use Rattle.runlength.specs.Merged.{leaderFor, leadsFor, leadersFor, classCount, classOf, firstOf, mergedMove, mergedAutomaton}
-use Rattle.runlength.specs.ClassLaws.{leader-most, leader-leads, first-leads, leaders-most, leader-future, future-leader}
+use Rattle.runlength.specs.FutureLaws.{simulation-future, future-step}
+use Rattle.runlength.specs.LowestLaws.{lowest-found}
+use Rattle.runlength.specs.Merged.{leadBefore, leaderFor, leadsFor, leadersFor, classCount, classOf, firstOf, mergedMove, mergedAutomaton}
+use Rattle.runlength.specs.LeadLaws.{lead-less, lead-most}
+use Rattle.runlength.specs.ClassLaws.{leader-most, leader-leads, first-leads, leader-future, future-leader}
 use Rattle.runlength.specs.Fewest.{HoldsStates, Reached}
 use Rattle.runlength.specs.FewestLaws.{fewest}
 
 -- ---- numbers of classes
 
 module _ (a : Automaton ℕ) (k : ℕ) where
-  -- one more below the next state where a state leads, and else as many
-  pub leaders-lead : (i : ℕ) → leaderFor a k i ≡ i → leadersFor a k (i + 1) ≡ leadersFor a k i + 1
-  unfolding leadersFor
-  leaders-lead i e =
-      let one : only (leadsFor a k i) 1 ≡ 1 = ap (λ b. only b 1) (eq-eqb (leaderFor a k i) i e) in
-      omega (arith, sum-more i (λ j. only (leadsFor a k j) 1))
-
-  pub leaders-other : (i : ℕ) → (leaderFor a k i ≡ i → ⊥) → leadersFor a k (i + 1) ≡ leadersFor a k i
-  unfolding leadersFor
-  leaders-other i e =
-      let none : only (leadsFor a k i) 1 ≡ 0 = ap (λ b. only b 1) (ne-eqb (leaderFor a k i) i e) in
-      omega (arith, sum-more i (λ j. only (leadsFor a k j) 1))
-
-  leaders-upto : (i j : ℕ) → i ≤ j → leadersFor a k i ≤ leadersFor a k j
-  unfolding leadersFor
-  leaders-upto i j h = sum-upto i j (λ s. only (leadsFor a k s) 1) h
-
-  -- a state that leads has fewer before it than any later one
-  pub leaders-less : (i j : ℕ) → leaderFor a k i ≡ i → i < j → leadersFor a k i < leadersFor a k j
-  leaders-less i j e h = omega (arith, leaders-lead i e, leaders-upto (i + 1) j (omega arith))
-
   -- each number below that of all is one of a state that leads
   record Leading (m c i : ℕ) : Type 0 where
     below : i < m
@@ -56,7 +33,7 @@ module _ (a : Automaton ℕ) (k : ℕ) where
     number : leadersFor a k i ≡ c
 
   leading : (m c : ℕ) → c < leadersFor a k m → (i : ℕ) × Leading m c i
-  unfolding leadersFor sum
+  unfolding leadBefore sum
   leading zero c h = absurd (omega arith)
   leading (suc m) c h = go (leadsFor a k m) refl (decLt c (leadersFor a k m)) (leading m c)
     where
@@ -86,18 +63,18 @@ module _ (a : Automaton ℕ) (n : ℕ) where
   class-leader i = ap (leadersFor a n) (leader-leads a n i)
 
   pub class-start : classOf a n 0 ≡ 0
-  unfolding classOf leadersFor sum
+  unfolding classOf leadBefore sum
   class-start = rw (first-leads a n)
 
   -- it is a number below that of the classes
   pub class-below : (i : ℕ) → i < n → classOf a n i < classCount a n
   unfolding classOf classCount
-  class-below i h = leaders-less a n (leaderFor a n i) n (leader-leads a n i) (omega (arith, leader-most a n i))
+  class-below i h = lead-less (leaderFor a n) (leaderFor a n i) n (leader-leads a n i) (omega (arith, leader-most a n i))
 
   -- no more classes than states
   pub count-most : classCount a n ≤ n
   unfolding classCount
-  count-most = leaders-most a n n
+  count-most = lead-most (leaderFor a n) n
 
   pub count-some : 0 < n → 0 < classCount a n
   count-some some = omega (arith, class-below 0 some)
@@ -112,8 +89,8 @@ module _ (a : Automaton ℕ) (n : ℕ) where
   class-same i j e = go (decLt (leaderFor a n i) (leaderFor a n j)) (decLt (leaderFor a n j) (leaderFor a n i))
     where
       go : Dec (leaderFor a n i < leaderFor a n j) → Dec (leaderFor a n j < leaderFor a n i) → leaderFor a n i ≡ leaderFor a n j
-      go (yes l) d = absurd (omega (arith, leaders-less a n (leaderFor a n i) (leaderFor a n j) (leader-leads a n i) l))
-      go (no k) (yes l) = absurd (omega (arith, leaders-less a n (leaderFor a n j) (leaderFor a n i) (leader-leads a n j) l))
+      go (yes l) d = absurd (omega (arith, lead-less (leaderFor a n) (leaderFor a n i) (leaderFor a n j) (leader-leads a n i) l))
+      go (no k) (yes l) = absurd (omega (arith, lead-less (leaderFor a n) (leaderFor a n j) (leaderFor a n i) (leader-leads a n j) l))
       go (no k) (no l) = omega arith
 
   -- the first state of the class of one that leads is this one
@@ -126,7 +103,7 @@ module _ (a : Automaton ℕ) (n : ℕ) where
   }))
     where
       before : (j : ℕ) → j < i → classOf a n j ≡ leadersFor a n i → ⊥
-      before j l q = omega (arith, leaders-less a n (leaderFor a n j) i (leader-leads a n j) (omega (arith, leader-most a n j)))
+      before j l q = omega (arith, lead-less (leaderFor a n) (leaderFor a n j) i (leader-leads a n j) (omega (arith, leader-most a n j)))
 
   -- each class has a first state, which leads it
   pub record FirstOf (c i : ℕ) : Type 0 where
@@ -143,7 +120,7 @@ module _ (a : Automaton ℕ) (n : ℕ) where
 
   -- a sum over the classes, of what their first states have, is one over the states that lead
   leading-sum : (f : ℕ → ℕ) (i : ℕ) → i ≤ n → sum i (λ s. only (leadsFor a n s) (f s)) ≡ sum (leadersFor a n i) (λ c. f (firstOf a n c))
-  unfolding sum leadersFor
+  unfolding sum leadBefore
   leading-sum f zero h = refl
   leading-sum f (suc i) h = go (leadsFor a n i) refl (leading-sum f i (omega arith))
     where
@@ -195,17 +172,6 @@ module _ (a : Automaton ℕ) (n : ℕ) where
     -- The merged chart has, from the class of a state, the state's future.
     pub merged-future : (i : ℕ) → i < n → EqualFuture a (mergedAutomaton a n) i (classOf a n i)
     merged-future i h = simulation-future a (mergedAutomaton a n) OfClass class-simulation (record { below = h; is = refl })
-
-    -- No two of its states have equal futures.
-    pub merged-apart : (c d : ℕ) → c < d → d < classCount a n → EqualFuture (mergedAutomaton a n) (mergedAutomaton a n) c d → ⊥
-    merged-apart c d l h e =
-        let m = mergedAutomaton a n in
-        let p = first-of c (omega arith) in
-        let q = first-of d h in
-        let f : EqualFuture a m (firstOf a n c) c = rw (p .class) at (merged-future (firstOf a n c) (p .below)) in
-        let g : EqualFuture a m (firstOf a n d) d = rw (q .class) at (merged-future (firstOf a n d) (q .below)) in
-        let both = future-trans a m a f (future-trans m m a e (future-sym a m g)) in
-        omega (arith, class-future (firstOf a n c) (firstOf a n d) (p .below) (q .below) .1 both, p .class, q .class)
 
     -- ---- fewest
 

@@ -10,7 +10,7 @@ use Rattle.runlength.specs.Scale.{weightTotal, unitsPerOne}
 use Rattle.runlength.specs.Sum.{at, sum, only}
 use Rattle.runlength.specs.Automaton.{after}
 use Rattle.runlength.specs.Lowest.{lowest}
-use Rattle.runlength.specs.Alike.{alikeFor}
+use Rattle.runlength.specs.Apart.{alikeFor}
 use Rattle.states.specs.States.{states}
 use Rattle.states.specs.Automata.{stateAutomaton}
 

@@ -23,7 +23,7 @@ use Rattle.states.specs.Automata.{stateAutomaton}
 use Rattle.states.specs.Explore.{Explored}
 use Rattle.merge.specs.Merge.{mergedCount, mergedMoves, Mergeable}
 use Rattle.merge.specs.MergeLaws.{merged-most, merged-length}
-use Rattle.merge.specs.PrefixLaws.{same-count, same-moves}
+use Rattle.merge.specs.OwnMovesLaws.{same-count, same-moves}
 use Rattle.table.specs.TableChain.{exploredCount, stateCount, chainMoves}
 use Rattle.table.specs.Table.{chartCheck}
 use Rattle.table.specs.ChartChecked.{HoldsMoves}

@@ -14,8 +14,8 @@ use Rattle.runlength.specs.Sum.{at}
 use Rattle.runlength.specs.Automaton.{Automaton, Move, quiet, signal}
 use Rattle.runlength.specs.Future.{Alike, EqualFuture}
 use Rattle.runlength.specs.FutureLaws.{simulation-future, future-sym, future-trans}
-use Rattle.runlength.specs.Merged.{classOf, firstOf, classCount}
-use Rattle.runlength.specs.AlikeLaws.{future-alike}
+use Rattle.runlength.specs.Merged.{classOf, firstOf}
+use Rattle.runlength.specs.ApartLaws.{future-alike}
 use Rattle.runlength.specs.ClassLaws.{same-leader, leader-future}
 use Rattle.runlength.specs.MergedLaws.{class-below, class-future, first-of, merged-fewest}
 use Rattle.runlength.specs.Fewest.{HoldsStates, Reached}
@@ -25,7 +25,7 @@ use Rattle.states.specs.AutomataLaws.{explored-reference}
 use Rattle.states.specs.Places.{At}
 use Rattle.states.specs.PlaceLaws.{same-place}
 use Rattle.states.specs.StatesLaws.{states-some, states-first, states-distinct, states-met, states-all, explored-simulation}
-use Rattle.merge.specs.Merge.{givenChart, mergedCount}
+use Rattle.merge.specs.Merge.{mergedCount}
 use Rattle.merge.specs.MergeLaws.{given-closed}
 use Rattle.table.specs.TableChain.{exploredCount, stateCount}
 use Rattle.table.specs.ByState.{alikeStates}
@@ -88,7 +88,8 @@ module _ (rs : List Rule) (few : exploredCount rs ≤ maxStates) where
       let p = first-of (given rs) (n rs) c (omega arith) in
       let q = first-of (given rs) (n rs) d h in
       let f = to-places (standing c (omega arith)) (standing d h) e in
-      omega (arith, class-future (given rs) (n rs) closed (firstOf (given rs) (n rs) c) (firstOf (given rs) (n rs) d) (p .below) (q .below) .1 f, p .class, q .class)
+      let same = class-future (given rs) (n rs) closed (firstOf (given rs) (n rs) c) (firstOf (given rs) (n rs) d) (p .below) (q .below) .1 f in
+      omega (arith, p .class, q .class)
 
   -- each state that is met has the future of one
   pub classes-all : {s : ℕ} → Met chart s → (c : ℕ) × (c < stateCount rs) × EqualFuture chart chart s (stateOfClass c)

@@ -1,14 +1,9 @@
--- The laws of the chain that the table runs on: it is proper; it has the plain chart's future; its size is N; no chart has fewer states; its
--- units by state.
+-- The laws of the chain that the table runs on: it is proper; it has the plain chart's future; its size is N; its figures by state.
 use mathlib.Core.Path.{_≡_, refl, sym, ap, _∙_}
-use mathlib.Core.Bool.{Bool, true, false}
 use mathlib.Core.List.{List, []}
-use mathlib.Core.Logic.{⊎-elim}
-use Prim.Native.Nat.{ℕ, zero, suc, _+_, _*_, _/_, _≤_, _<_}
+use Prim.Native.Nat.{ℕ, zero, suc, _*_, _/_, _≤_, _<_}
 use native.Mathlib.Omega.{arith}
-use native.Mathlib.Nat.{le-refl}
-use native.Mathlib.Numerals.{add-one}
-use borrow.Author.Tests.{eq-eqb, eqb-true, eqb-false}
+use borrow.Author.Tests.{eq-eqb, eqb-true}
 use lib.Dec.{eqb}
 use lib.ListN.{length}
 use Rattle.rules.specs.declared.Rule.{Rule}
@@ -19,13 +14,12 @@ use Rattle.runlength.specs.Sum.{at, sum, only, tab}
 use Rattle.runlength.specs.SumLaws.{sum-cong}
 use Rattle.runlength.specs.Automaton.{Automaton, Move, quiet, signal, after}
 use Rattle.runlength.specs.Chain.{Proper, inflow, signalled, units, pmf, survival}
-use Rattle.runlength.specs.Listed.{listedAutomaton}
 use Rattle.runlength.specs.Future.{Alike, EqualFuture}
 use Rattle.runlength.specs.FutureLaws.{future-trans}
 use Rattle.runlength.specs.LowestLaws.{lowest-cong}
-use Rattle.runlength.specs.AlikeLaws.{same-test-by, simulation-alike}
-use Rattle.runlength.specs.Alike.{alikeFor}
-use Rattle.runlength.specs.Merged.{leaderFor, leadsFor, leadersFor, classCount, classOf, firstOf, mergedMove}
+use Rattle.runlength.specs.ApartLaws.{same-test-by, simulation-alike}
+use Rattle.runlength.specs.Apart.{alikeFor}
+use Rattle.runlength.specs.Merged.{leaderFor, leadsFor, classCount, classOf, firstOf, mergedMove}
 use Rattle.runlength.specs.ClassLaws.{leader-same, same-leader}
 use Rattle.runlength.specs.MergedLaws.{class-start, class-same, first-of, sum-classes}
 use Rattle.runlength.specs.MergedLaws as merged
@@ -36,8 +30,8 @@ use Rattle.states.specs.Automata.{stateAutomaton, referenceAutomaton}
 use Rattle.states.specs.AutomataLaws.{explored-reference}
 use Rattle.states.specs.Places.{At}
 use Rattle.states.specs.StatesLaws.{states-some, states-first, explored-simulation}
-use Rattle.merge.specs.Merge.{givenChart, mergedCount, mergedMoves}
-use Rattle.merge.specs.MergeLaws.{given-closed, merged-most, listed-merged, listed-future}
+use Rattle.merge.specs.Merge.{givenChart, mergedCount}
+use Rattle.merge.specs.MergeLaws.{merged-most, listed-merged, listed-future}
 use Rattle.table.specs.TableChain.{exploredCount, stateCount, chainMoves, tableAutomaton, tableChain}
 use Rattle.table.specs.ByState.{alikeStates, firstOfItsKind, overStates, stateInflow, stateSignalled, stateUnits}
 
@@ -112,11 +106,12 @@ module _ (rs : List Rule) where
     -- a place is of a class exactly where its state is alike to that of the class
     by-class : (i c : ℕ) → i < n → c < classCount given n → eqb (classOf given n i) c ≡ alikeStates rs (at met i) (stateOf c)
     by-class i c h l =
+        let s = firstOf given n c in
         let f = first-of given n c l in
-        same-test-by (eqb (classOf given n i) c) (alikeFor given n i (firstOf given n c))
-        (λ e. leader-same given n i (firstOf given n c) (class-same given n i (firstOf given n c) (eqb-true (classOf given n i) c e ∙ sym (f .class))))
-        (λ e. eq-eqb (classOf given n i) c (merged.same-class given n i (firstOf given n c) (same-leader given n i (firstOf given n c) e) ∙ f .class))
-        ∙ alike-places i (firstOf given n c) h (f .below)
+        same-test-by (eqb (classOf given n i) c) (alikeFor given n i s)
+        (λ e. leader-same given n i s (class-same given n i s (eqb-true (classOf given n i) c e ∙ sym (f .class))))
+        (λ e. eq-eqb (classOf given n i) c (merged.same-class given n i s (same-leader given n i s e) ∙ f .class))
+        ∙ alike-places i s h (f .below)
 
     -- the first place of a class holds the first state of its kind
     by-first : (i : ℕ) → i < n → leadsFor given n i ≡ firstOfItsKind rs i

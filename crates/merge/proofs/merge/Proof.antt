@@ -24,7 +24,10 @@ slice-aggregate-number-3 : tie.Need-slice-aggregate-number-3
 slice-aggregate-number-3 c = search needs
 
 number-requires : tie.Need-number-requires
-number-requires c κs = number-of (c .before .before .before .before .before .before .before .before .before .before .pre) (c .before .before .before .before .before .find-leaders .ensures .0) (c .before .before .before .before .before .find-leaders .ensures .1)
+number-requires c κs =
+    let p = c .before .before .before .before .before .before .before .before .before .before .pre in
+    number-of p (c .before .before .before .before .before .find-leaders .ensures .0)
+    (c .before .before .before .before .before .find-leaders .ensures .1)
 
 slice-aggregate-carry : tie.Need-slice-aggregate-carry
 slice-aggregate-carry c = search needs
@@ -33,13 +36,25 @@ slice-aggregate-carry-2 : tie.Need-slice-aggregate-carry-2
 slice-aggregate-carry-2 c = search needs
 
 carry-requires : tie.Need-carry-requires
-carry-requires c κs = let p = c .before .before .before .before .before .before .before .before .before .before .before .before .before .before .before .before .pre in carry-can (c .before .before .before .before .before .before .before .before .before .before .before .find-leaders .ensures .0) (c .before .before .before .before .before .number .ensures .0) (p .few) (p .moves) (omega (arith, p .few, c .before .before .before .before .before .number .ensures .1 .0)) (omega (arith, p .few, c .before .before .before .before .before .number .ensures .1 .1)) _ (p .room)
+carry-requires c κs =
+    let p = c .before .before .before .before .before .before .before .before .before .before .before .before .before .before .before
+    .before .pre in
+    carry-can (c .before .before .before .before .before .before .before .before .before .before .before .find-leaders .ensures .0)
+    (c .before .before .before .before .before .number .ensures .0) (p .few) (p .moves)
+    (omega (arith, p .few, c .before .before .before .before .before .number .ensures .1 .0))
+    (omega (arith, p .few, c .before .before .before .before .before .number .ensures .1 .1)) _ (p .room)
 
 same-length : tie.Need-same-length
 same-length c = search needs
 
 returns : tie.Need-returns
-returns c = let h = c .before .before .before .before .before .before .before .before .before .before .before .before .before .before .find-leaders .ensures .0 in (numbered-count h (c .before .before .before .before .before .before .before .before .number .ensures .0), carried-moves h (c .before .before .before .before .before .before .before .before .number .ensures .0) _ _ (c .before .before .carry .ensures))
+returns c =
+    let h = c .before .before .before .before .before .before .before .before .before .before .before .before .before .before .find-leaders
+    .ensures .0 in (
+      numbered-count h (c .before .before .before .before .before .before .before .before .number .ensures .0),
+      carried-moves h (c .before .before .before .before .before .before .before .before .number .ensures .0) _ _
+          (c .before .before .carry .ensures),
+    )
 
 pub merge-spec : {M : Type 1} → statement M
 merge-spec =

@@ -17,16 +17,24 @@ index-requires : tie.Need-index-requires
 index-requires c κs = tt
 
 cast-firsts : tie.Need-cast-firsts
-cast-firsts c = record { fits = omega (arith, c .before .before .before .before .before .before .pre .few, count-fits (c .before .before .before .before .before .before .pre)) }
+cast-firsts c =
+    let p = c .before .before .before .before .before .before .pre in
+    record { fits = omega (arith, p .few, count-fits p) }
 
 mul-firsts : tie.Need-mul-firsts
-mul-firsts c = record { fits = omega (arith, c .before .before .before .before .before .before .pre .few, count-fits (c .before .before .before .before .before .before .pre)) }
+mul-firsts c =
+    let p = c .before .before .before .before .before .before .pre in
+    record { fits = omega (arith, p .few, count-fits p) }
 
 slice-write-firsts : tie.Need-slice-write-firsts
-slice-write-firsts c = omega (arith, c .before .before .before .before .before .before .pre .firsts-room, count-fits (c .before .before .before .before .before .before .pre))
+slice-write-firsts c =
+    let p = c .before .before .before .before .before .before .pre in
+    omega (arith, p .firsts-room, count-fits p)
 
 cast-classes : tie.Need-cast-classes
-cast-classes c = record { fits = omega (arith, c .before .before .before .before .before .before .pre .few, count-fits (c .before .before .before .before .before .before .pre)) }
+cast-classes c =
+    let p = c .before .before .before .before .before .before .pre in
+    record { fits = omega (arith, p .few, count-fits p) }
 
 mul-classes : tie.Need-mul-classes
 mul-classes c = record { fits = omega (arith, c .before .before .before .before .before .before .pre .few) }
@@ -35,7 +43,9 @@ slice-write-classes : tie.Need-slice-write-classes
 slice-write-classes c = c .before .before .before .before .before .before .pre .classes-room
 
 add-result : tie.Need-add-result
-add-result c = record { fits = omega (arith, c .before .before .before .before .before .before .pre .few, count-fits (c .before .before .before .before .before .before .pre)) }
+add-result c =
+    let p = c .before .before .before .before .before .before .pre in
+    record { fits = omega (arith, p .few, count-fits p) }
 
 same-length : tie.Need-same-length
 same-length c = search needs
@@ -44,13 +54,22 @@ same-length-2 : tie.Need-same-length-2
 same-length-2 c = search needs
 
 returns : tie.Need-returns
-returns c = let a = c .before .before .before .before .before .before .args in (number-first (c .before .before .before .before .before .before .pre) (sym (c .before .index .ensures) ∙ c .if1 .taken), (length-set (a .classes .now) (a .i) (a .count), length-set (a .firsts .now) (a .count) (a .i)))
+returns c =
+    let p = c .before .before .before .before .before .before .pre in
+    let a = c .before .before .before .before .before .before .args in (
+      number-first p (sym (c .before .index .ensures) ∙ c .if1 .taken),
+      (length-set (a .classes .now) (a .i) (a .count), length-set (a .firsts .now) (a .count) (a .i)),
+    )
 
 mul-classes-2 : tie.Need-mul-classes-2
-mul-classes-2 c = record { fits = omega (arith, c .before .index .ensures, c .before .before .before .before .before .before .pre .led .most, c .before .before .before .before .before .before .pre .few) }
+mul-classes-2 c =
+    let p = c .before .before .before .before .before .before .pre in
+    record { fits = omega (arith, c .before .index .ensures, p .led .most, p .few) }
 
 slice-read-classes : tie.Need-slice-read-classes
-slice-read-classes c = omega (arith, c .before .before .index .ensures, c .before .before .before .before .before .before .before .pre .led .most, c .before .before .before .before .before .before .before .pre .classes-room)
+slice-read-classes c =
+    let p = c .before .before .before .before .before .before .before .pre in
+    omega (arith, c .before .before .index .ensures, p .led .most, p .classes-room)
 
 mul-classes-3 : tie.Need-mul-classes-3
 mul-classes-3 c = record { fits = omega (arith, c .before .before .before .before .before .before .before .pre .few) }
@@ -62,7 +81,12 @@ same-length-3 : tie.Need-same-length-3
 same-length-3 c = search needs
 
 returns-2 : tie.Need-returns-2
-returns-2 c = let a = c .before .before .before .before .before .before .before .args in (number-other (c .before .before .before .before .before .before .before .pre) (c .before .before .index .result) (c .before .before .index .ensures) (c .before .if1 .left), (length-set (a .classes .now) (a .i) (getD (a .classes .now) (c .before .before .index .result) 0), refl))
+returns-2 c =
+    let p = c .before .before .before .before .before .before .before .pre in
+    let a = c .before .before .before .before .before .before .before .args in (
+      number-other p (c .before .before .index .result) (c .before .before .index .ensures) (c .before .if1 .left),
+      (length-set (a .classes .now) (a .i) (getD (a .classes .now) (c .before .before .index .result) 0), refl),
+    )
 
 pub number-state-spec : {M : Type 1} → statement M
 number-state-spec =

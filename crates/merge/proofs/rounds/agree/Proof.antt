@@ -20,22 +20,37 @@ mul-label-at : tie.Need-mul-label-at Inv-loop μ-loop
 mul-label-at c = record { fits = omega (arith, c .before .before .before .before .pre .0 .few, c .before .before .before .before .pre .1) }
 
 add-label-at : tie.Need-add-label-at Inv-loop μ-loop
-add-label-at c = record { fits = omega (arith, c .before .before .before .before .pre .0 .few, c .before .before .before .before .pre .1, c .before .loop .inv .0) }
+add-label-at c =
+    let p = c .before .before .before .before .pre in
+    record { fits = omega (arith, p .0 .few, p .1, c .before .loop .inv .0) }
 
 label-at-requires : tie.Need-label-at-requires Inv-loop μ-loop
-label-at-requires c κs = (c .before .before .before .before .pre .0 .room, omega (arith, c .before .before .before .before .pre .0 .moves, c .before .before .before .before .pre .1, c .loop-test .taken))
+label-at-requires c κs =
+    let p = c .before .before .before .before .pre in
+    (p .0 .room, omega (arith, p .0 .moves, p .1, c .loop-test .taken))
 
 mul-label-at-2 : tie.Need-mul-label-at-2 Inv-loop μ-loop
-mul-label-at-2 c = record { fits = omega (arith, c .before .before .before .before .before .pre .0 .few, c .before .before .before .before .before .pre .2) }
+mul-label-at-2 c =
+    let p = c .before .before .before .before .before .pre in
+    record { fits = omega (arith, p .0 .few, p .2) }
 
 add-label-at-2 : tie.Need-add-label-at-2 Inv-loop μ-loop
-add-label-at-2 c = record { fits = omega (arith, c .before .before .before .before .before .pre .0 .few, c .before .before .before .before .before .pre .2, c .before .before .loop .inv .0) }
+add-label-at-2 c =
+    let p = c .before .before .before .before .before .pre in
+    record { fits = omega (arith, p .0 .few, p .2, c .before .before .loop .inv .0) }
 
 label-at-requires-2 : tie.Need-label-at-requires-2 Inv-loop μ-loop
-label-at-requires-2 c κs = (c .before .before .before .before .before .pre .0 .room, omega (arith, c .before .before .before .before .before .pre .0 .moves, c .before .before .before .before .before .pre .2, c .before .loop-test .taken))
+label-at-requires-2 c κs =
+    let p = c .before .before .before .before .before .pre in
+    (p .0 .room, omega (arith, p .0 .moves, p .2, c .before .loop-test .taken))
 
 returns : tie.Need-returns Inv-loop μ-loop
-returns c = let a = c .before .before .before .before .before .before .before .args in agree-not (a .n) (a .moves .now) (a .leaders .now) (a .i) (a .j) (c .before .before .before .before .loop .inv .1) (c .before .before .label-at .ensures) (c .before .label-at2 .ensures) (c .before .before .before .loop-test .taken) (c .if1 .taken)
+returns c =
+    let t = c .before .before .before .loop-test .taken in
+    let l = c .before .before .before .before .loop in
+    let a = c .before .before .before .before .before .before .before .args in
+    agree-not (a .n) (a .moves .now) (a .leaders .now) (a .i) (a .j) (l .inv .1) (c .before .before .label-at .ensures)
+    (c .before .label-at2 .ensures) t (c .if1 .taken)
 
 add-z : tie.Need-add-z Inv-loop μ-loop
 add-z c = search needs
@@ -44,10 +59,20 @@ loop-less : tie.Need-loop-less Inv-loop μ-loop
 loop-less c = search needs
 
 loop-again : tie.Need-loop-again Inv-loop μ-loop
-loop-again c = let a = c .before .before .before .before .before .before .before .args in (omega (arith, c .before .before .before .loop-test .taken), agree-more (a .n) (a .moves .now) (a .leaders .now) (a .i) (a .j) (c .before .before .before .before .loop .inv .1) (c .before .before .label-at .ensures) (c .before .label-at2 .ensures) (c .if1 .left))
+loop-again c =
+    let t = c .before .before .before .loop-test .taken in
+    let l = c .before .before .before .before .loop in
+    let a = c .before .before .before .before .before .before .before .args in (
+      omega (arith, t),
+      agree-more (a .n) (a .moves .now) (a .leaders .now) (a .i) (a .j) (l .inv .1) (c .before .before .label-at .ensures)
+          (c .before .label-at2 .ensures) (c .if1 .left),
+    )
 
 returns-2 : tie.Need-returns-2 Inv-loop μ-loop
-returns-2 c = let a = c .before .before .before .before .args in agree-all (a .n) (a .moves .now) (a .leaders .now) (a .i) (a .j) (c .before .loop .inv .1) (omega (arith, c .before .loop .inv .0, c .loop-test .left))
+returns-2 c =
+    let a = c .before .before .before .before .args in
+    agree-all (a .n) (a .moves .now) (a .leaders .now) (a .i) (a .j) (c .before .loop .inv .1)
+    (omega (arith, c .before .loop .inv .0, c .loop-test .left))
 
 pub agree-spec : {M : Type 1} → statement M
 agree-spec =

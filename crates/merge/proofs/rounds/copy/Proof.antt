@@ -37,19 +37,23 @@ loop-less : tie.Need-loop-less Inv-loop μ-loop
 loop-less c = search needs
 
 loop-again : tie.Need-loop-again Inv-loop μ-loop
-loop-again c = let a = c .before .before .before .args in
+loop-again c =
+    let p = c .before .before .before .pre in
+    let a = c .before .before .before .args in
     let l = c .before .before .loop in (
       omega (arith, c .before .loop-test .taken),
       length-set (l .to) (l .i) _ ∙ l .inv .1,
-      front-more (l .i) (at (a .from .now)) (a .to .now) (l .to) _ (omega (arith, c .before .before .before .pre .1, c .before .loop-test .taken)) (l .inv .2) refl,
+      front-more (l .i) (at (a .from .now)) (a .to .now) (l .to) _ (omega (arith, p .1, c .before .loop-test .taken)) (l .inv .2) refl,
     )
 
 same-length : tie.Need-same-length Inv-loop μ-loop
 same-length c = c .before .loop .inv .1
 
 returns : tie.Need-returns Inv-loop μ-loop
-returns c = let l = c .before .loop in
-    l .inv .2 ∙ ap (λ k. front k (at (c .before .before .args .from .now)) (c .before .before .args .to .now)) (omega (arith, l .inv .0, c .loop-test .left))
+returns c =
+    let l = c .before .loop in
+    l .inv .2 ∙ ap (λ k. front k (at (c .before .before .args .from .now)) (c .before .before .args .to .now))
+    (omega (arith, l .inv .0, c .loop-test .left))
 
 pub copy-spec : {M : Type 1} → statement M
 copy-spec =

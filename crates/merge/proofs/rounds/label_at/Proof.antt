@@ -22,13 +22,18 @@ shared-slice-read-result : tie.Need-shared-slice-read-result
 shared-slice-read-result c = search needs
 
 returns : tie.Need-returns
-returns c = let a = c .before .before .before .before .before .before .args in rw (c .before .before .index .ensures) (label-state (a .n) (a .labels .now) (at (a .moves .now) (a .k)) (omega (arith, c .before .if1 .taken, c .before .before .index .ensures)))
+returns c =
+    let a = c .before .before .before .before .before .before .args in
+    rw (c .before .before .index .ensures)
+    (label-state (a .n) (a .labels .now) (at (a .moves .now) (a .k)) (omega (arith, c .before .if1 .taken, c .before .before .index .ensures)))
 
 cast-result : tie.Need-cast-result
 cast-result c = search needs
 
 returns-2 : tie.Need-returns-2
-returns-2 c = let a = c .before .before .before .before .before .args in label-signal (a .n) (a .labels .now) (at (a .moves .now) (a .k)) (omega (arith, c .if1 .left, c .before .index .ensures))
+returns-2 c =
+    let a = c .before .before .before .before .before .args in
+    label-signal (a .n) (a .labels .now) (at (a .moves .now) (a .k)) (omega (arith, c .if1 .left, c .before .index .ensures))
 
 pub label-at-spec : {M : Type 1} → statement M
 label-at-spec =

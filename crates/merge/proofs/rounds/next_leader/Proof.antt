@@ -23,13 +23,21 @@ index-requires : tie.Need-index-requires Inv-loop μ-loop
 index-requires c κs = search needs
 
 loop-holds : tie.Need-loop-holds Inv-loop μ-loop
-loop-holds c = let a = c .before .before .before .before .args in rw (c .index .ensures) (none-skipped (a .n) (a .moves .now) (a .leaders .now) (a .i) (c .before .before .before .before .pre .2))
+loop-holds c =
+    let p = c .before .before .before .before .pre in
+    let a = c .before .before .before .before .args in
+    rw (c .index .ensures) (none-skipped (a .n) (a .moves .now) (a .leaders .now) (a .i) (p .2))
 
 agree-requires : tie.Need-agree-requires Inv-loop μ-loop
-agree-requires c κs = (c .before .before .before .before .before .before .pre .0, omega (arith, c .loop-test .taken, c .before .before .before .before .before .before .pre .1), c .before .before .before .before .before .before .pre .1)
+agree-requires c κs =
+    let p = c .before .before .before .before .before .before .pre in
+    (p .0, omega (arith, c .loop-test .taken, p .1), p .1)
 
 returns : tie.Need-returns Inv-loop μ-loop
-returns c = let a = c .before .before .before .before .before .before .before .before .args in leader-found (a .n) (a .moves .now) (a .leaders .now) (a .i) (c .before .before .before .loop .inv) (sym (c .if1 .taken) ∙ c .before .agree .ensures)
+returns c =
+    let l = c .before .before .before .loop in
+    let a = c .before .before .before .before .before .before .before .before .args in
+    leader-found (a .n) (a .moves .now) (a .leaders .now) (a .i) (l .inv) (sym (c .if1 .taken) ∙ c .before .agree .ensures)
 
 add-j : tie.Need-add-j Inv-loop μ-loop
 add-j c = search needs
@@ -38,10 +46,17 @@ loop-less : tie.Need-loop-less Inv-loop μ-loop
 loop-less c = omega arith
 
 loop-again : tie.Need-loop-again Inv-loop μ-loop
-loop-again c = let a = c .before .before .before .before .before .before .before .before .args in none-more (a .n) (a .moves .now) (a .leaders .now) (a .i) (c .before .before .before .loop .inv) (c .before .before .loop-test .taken) (sym (c .if1 .left) ∙ c .before .agree .ensures)
+loop-again c =
+    let t = c .before .before .loop-test .taken in
+    let l = c .before .before .before .loop in
+    let a = c .before .before .before .before .before .before .before .before .args in
+    none-more (a .n) (a .moves .now) (a .leaders .now) (a .i) (l .inv) t (sym (c .if1 .left) ∙ c .before .agree .ensures)
 
 returns-2 : tie.Need-returns-2 Inv-loop μ-loop
-returns-2 c = let a = c .before .before .before .before .before .before .args in leader-self (a .n) (a .moves .now) (a .leaders .now) (a .i) (c .before .loop .inv) (omega (arith, c .before .loop .inv .most, c .loop-test .left))
+returns-2 c =
+    let a = c .before .before .before .before .before .before .args in
+    leader-self (a .n) (a .moves .now) (a .leaders .now) (a .i) (c .before .loop .inv)
+    (omega (arith, c .before .loop .inv .most, c .loop-test .left))
 
 pub next-leader-spec : {M : Type 1} → statement M
 next-leader-spec =

@@ -3,7 +3,6 @@ use Prim.Native.Nat.{_-_, _≤_}
 use native.Mathlib.Omega.{arith}
 use Rattle.merge.specs.Rounds.{Refined}
 use Rattle.merge.specs.AgreeLaws.{refined-none, refined-sub, refined-fits, refined-more, refined-all}
-use borrow.Author.Needs.{needs}
 use Rattle.merge.proofs.rounds.refine.Statement.{statement}
 use Rattle.merge.proofs.rounds.refine.Tie as tie
 
@@ -14,49 +13,99 @@ abbrev μ-loop : tie.MeasureT-loop
 μ-loop moves leaders n next₀ moved₀ i₀ next moved i = n - i
 
 loop-holds : tie.Need-loop-holds Inv-loop μ-loop
-loop-holds c = (omega arith, let a = c .before .before .before .args in refined-none (a .n) (a .moves .now) (a .leaders .now) (a .next .now))
+loop-holds c =
+    let a = c .before .before .before .args in
+    (omega arith, let a = a in refined-none (a .n) (a .moves .now) (a .leaders .now) (a .next .now))
 
 next-leader-requires : tie.Need-next-leader-requires Inv-loop μ-loop
-next-leader-requires c κs = (c .before .before .before .before .before .pre .has-room, c .loop-test .taken, c .before .before .before .before .before .pre .skips (c .before .loop .i) (c .loop-test .taken))
+next-leader-requires c κs =
+    let p = c .before .before .before .before .before .pre in
+    (p .has-room, c .loop-test .taken, p .skips (c .before .loop .i) (c .loop-test .taken))
 
 mul-index : tie.Need-mul-index Inv-loop μ-loop
-mul-index c = record { fits = omega (arith, c .before .before .before .before .before .before .pre .has-room .few, c .before .loop-test .taken) }
+mul-index c =
+    let p = c .before .before .before .before .before .before .pre in
+    record { fits = omega (arith, p .has-room .few, c .before .loop-test .taken) }
 
 shared-slice-read-index : tie.Need-shared-slice-read-index Inv-loop μ-loop
-shared-slice-read-index c = omega (arith, c .before .before .before .before .before .before .before .pre .has-room .room, c .before .before .loop-test .taken)
+shared-slice-read-index c =
+    let t = c .before .before .loop-test .taken in
+    let p = c .before .before .before .before .before .before .before .pre in
+    omega (arith, p .has-room .room, t)
 
 index-requires : tie.Need-index-requires Inv-loop μ-loop
 index-requires c κs = tt
 
 sub-moved : tie.Need-sub-moved Inv-loop μ-loop
-sub-moved c = let a = c .before .before .before .before .before .before .before .before .args in refined-sub (a .n) (a .moves .now) (a .leaders .now) (a .next .now) (c .before .before .before .before .before .before .before .before .pre) (c .before .before .before .before .loop .inv .1) (c .before .before .before .loop-test .taken) (c .before .before .next-leader .ensures) (c .index .ensures)
+sub-moved c =
+    let t = c .before .before .before .loop-test .taken in
+    let l = c .before .before .before .before .loop in
+    let p = c .before .before .before .before .before .before .before .before .pre in
+    let a = c .before .before .before .before .before .before .before .before .args in
+    refined-sub (a .n) (a .moves .now) (a .leaders .now) (a .next .now) p (l .inv .1) t (c .before .before .next-leader .ensures)
+    (c .index .ensures)
 
 add-moved : tie.Need-add-moved Inv-loop μ-loop
-add-moved c = let a = c .before .before .before .before .before .before .before .before .args in let p = refined-more (a .n) (a .moves .now) (a .leaders .now) (a .next .now) (c .before .before .before .before .before .before .before .before .pre) (c .before .before .before .before .loop .inv .1) (c .before .before .before .loop-test .taken) (c .before .before .next-leader .ensures) (c .index .ensures) in record { fits = omega (arith, p .most, c .before .before .before .before .before .before .before .before .pre .has-room .few, c .before .before .before .loop-test .taken) }
+add-moved c =
+    let t = c .before .before .before .loop-test .taken in
+    let l = c .before .before .before .before .loop in
+    let a = c .before .before .before .before .before .before .before .before .args in
+    let p = refined-more (a .n) (a .moves .now) (a .leaders .now) (a .next .now)
+    (c .before .before .before .before .before .before .before .before .pre) (l .inv .1) t (c .before .before .next-leader .ensures)
+    (c .index .ensures) in
+    record { fits = omega (arith, p .most, c .before .before .before .before .before .before .before .before .pre .has-room .few, t) }
 
 cast-next : tie.Need-cast-next Inv-loop μ-loop
-cast-next c = let a = c .before .before .before .before .before .before .before .before .args in record { fits = omega (arith, refined-fits (a .n) (a .moves .now) (a .leaders .now) (a .next .now) (c .before .before .before .before .before .before .before .before .pre) (c .before .before .before .before .loop .inv .1) (c .before .before .before .loop-test .taken) (c .before .before .next-leader .ensures) (c .index .ensures)) }
+cast-next c =
+    let t = c .before .before .before .loop-test .taken in
+    let l = c .before .before .before .before .loop in
+    let p = c .before .before .before .before .before .before .before .before .pre in
+    let a = c .before .before .before .before .before .before .before .before .args in
+    let e = c .before .before .next-leader .ensures in
+    let f = refined-fits (a .n) (a .moves .now) (a .leaders .now) (a .next .now) p (l .inv .1) t e (c .index .ensures) in
+    record { fits = omega arith }
 
 mul-next : tie.Need-mul-next Inv-loop μ-loop
-mul-next c = record { fits = omega (arith, c .before .before .before .before .before .before .before .before .pre .has-room .few, c .before .before .before .loop-test .taken) }
+mul-next c =
+    let t = c .before .before .before .loop-test .taken in
+    let p = c .before .before .before .before .before .before .before .before .pre in
+    record { fits = omega (arith, p .has-room .few, t) }
 
 slice-write-next : tie.Need-slice-write-next Inv-loop μ-loop
-slice-write-next c = omega (arith, c .before .before .before .before .loop .inv .1 .same-room, c .before .before .before .before .before .before .before .before .pre .next-room, c .before .before .before .loop-test .taken)
+slice-write-next c =
+    let t = c .before .before .before .loop-test .taken in
+    let l = c .before .before .before .before .loop in
+    let p = c .before .before .before .before .before .before .before .before .pre in
+    omega (arith, l .inv .1 .same-room, p .next-room, t)
 
 add-i : tie.Need-add-i Inv-loop μ-loop
-add-i c = record { fits = omega (arith, c .before .before .before .before .before .before .before .before .pre .has-room .few, c .before .before .before .loop-test .taken) }
+add-i c =
+    let t = c .before .before .before .loop-test .taken in
+    let p = c .before .before .before .before .before .before .before .before .pre in
+    record { fits = omega (arith, p .has-room .few, t) }
 
 loop-less : tie.Need-loop-less Inv-loop μ-loop
 loop-less c = omega (arith, c .before .before .before .loop-test .taken)
 
 loop-again : tie.Need-loop-again Inv-loop μ-loop
-loop-again c = let a = c .before .before .before .before .before .before .before .before .args in (omega (arith, c .before .before .before .loop-test .taken), refined-more (a .n) (a .moves .now) (a .leaders .now) (a .next .now) (c .before .before .before .before .before .before .before .before .pre) (c .before .before .before .before .loop .inv .1) (c .before .before .before .loop-test .taken) (c .before .before .next-leader .ensures) (c .index .ensures))
+loop-again c =
+    let t = c .before .before .before .loop-test .taken in
+    let l = c .before .before .before .before .loop in
+    let p = c .before .before .before .before .before .before .before .before .pre in
+    let a = c .before .before .before .before .before .before .before .before .args in (
+      omega (arith, t),
+      refined-more (a .n) (a .moves .now) (a .leaders .now) (a .next .now) p (l .inv .1) t (c .before .before .next-leader .ensures)
+          (c .index .ensures),
+    )
 
 same-length : tie.Need-same-length Inv-loop μ-loop
 same-length c = c .before .loop .inv .1 .same-room
 
 returns : tie.Need-returns Inv-loop μ-loop
-returns c = let a = c .before .before .before .before .before .args in refined-all (a .n) (a .moves .now) (a .leaders .now) (a .next .now) (c .before .loop .inv .1) (omega (arith, c .before .loop .inv .0, c .loop-test .left))
+returns c =
+    let a = c .before .before .before .before .before .args in
+    refined-all (a .n) (a .moves .now) (a .leaders .now) (a .next .now) (c .before .loop .inv .1)
+    (omega (arith, c .before .loop .inv .0, c .loop-test .left))
 
 pub refine-spec : {M : Type 1} → statement M
 refine-spec =

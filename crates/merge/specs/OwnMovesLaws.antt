@@ -1,21 +1,21 @@
 -- Merging goes by the moves of the n states alone: what stands behind them in the list changes nothing. Laws.
 use Prim.Native.Nat.{ℕ, _+_, _*_, _/_, _%_, _≤_, _<_}
-use mathlib.Core.Path.{_≡_, refl, sym, ap, ap₂, _∙_}
+use mathlib.Core.Path.{_≡_, refl, sym, ap, _∙_}
 use mathlib.Core.List.{List}
 use native.Mathlib.Omega.{arith}
 use native.Mathlib.Nat.{le-refl}
 use lib.Dec.{eqb}
 use Rattle.rules.specs.Bounds.{zoneCount}
-use Rattle.runlength.specs.Sum.{at, sum, only, tab}
-use Rattle.runlength.specs.SumLaws.{sum-cong}
+use Rattle.runlength.specs.Sum.{at, tab}
 use Rattle.runlength.specs.TabLaws.{tab-cong}
 use Rattle.runlength.specs.Automaton.{Move, quiet, signal, after}
 use Rattle.runlength.specs.Listed.{entryMove}
 use Rattle.runlength.specs.ListedLaws.{entry-in}
 use Rattle.runlength.specs.Future.{Alike, Simulation}
 use Rattle.runlength.specs.LowestLaws.{lowest-cong}
-use Rattle.runlength.specs.AlikeLaws.{simulation-alike}
+use Rattle.runlength.specs.ApartLaws.{simulation-alike}
 use Rattle.runlength.specs.Merged.{leaderFor, leadersFor, classCount, classOf, firstOf, mergedMove}
+use Rattle.runlength.specs.LeadLaws.{lead-cong}
 use Rattle.runlength.specs.ClassLaws.{leader-most}
 use Rattle.runlength.specs.MergedLaws.{first-of}
 use Rattle.merge.specs.Merge.{entryOf, givenChart, mergedCount, mergedMoves}
@@ -47,8 +47,7 @@ module _ (n : ℕ) (m m′ : List ℕ) (same : (k : ℕ) → k < zoneCount * n �
       (record { below = omega arith; is = refl }) (record { below = h; is = refl }))
 
   same-leaders : (i : ℕ) → i ≤ n → leadersFor (givenChart n m) n i ≡ leadersFor (givenChart n m′) n i
-  unfolding leadersFor
-  same-leaders i h = sum-cong i _ _ (λ j l. ap (λ x. only (eqb x j) 1) (same-leader j (omega arith)))
+  same-leaders i h = lead-cong (leaderFor (givenChart n m) n) (leaderFor (givenChart n m′) n) i (λ j l. same-leader j (omega arith))
 
   pub same-count : mergedCount n m ≡ mergedCount n m′
   unfolding mergedCount classCount

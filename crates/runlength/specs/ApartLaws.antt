@@ -1,6 +1,6 @@
 -- Laws of states that no continuation of up to k points tells apart: an equivalence; more points tell no fewer apart; for all k it is an equal
 -- future; a simulation keeps it.
-use Prim.Native.Nat.{ℕ, zero, suc, _+_, _≤_, _<_}
+use Prim.Native.Nat.{ℕ, zero, suc, _+_, _<_}
 use mathlib.Core.Path.{_≡_, refl, sym, ap, _∙_}
 use mathlib.Core.Bool.{Bool, true, false, _&&_}
 use native.Mathlib.Omega.{arith}
@@ -9,7 +9,7 @@ use native.Mathlib.Decide.{decLt}
 use Rattle.runlength.specs.Automaton.{Automaton, Move, quiet, signal}
 use Rattle.runlength.specs.Future.{Alike, EqualFuture, Simulation}
 use Rattle.runlength.specs.FutureLaws.{simulation-future, future-step}
-use Rattle.runlength.specs.Alike.{allOf, alikeMoves, alikeFor}
+use Rattle.runlength.specs.Apart.{allOf, alikeMoves, alikeFor}
 
 -- ---- tests
 
