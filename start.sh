@@ -23,7 +23,7 @@ out=target/soak.out
   echo 'horizon,1000'
 } | target/bin/runs_table >"$out"
 bounds=$(bash scripts/bounds.sh "$out" 1000)
-echo "The number of chart states, and the row of period 1,000 (period, chance at it, chance by it, left), in units of 2^-60:"
+echo "The number of chart states that differ, and the row of period 1,000 (period, chance at it, chance by it, left), in units of 2^-60:"
 grep -E '^(standings|1000),' "$out"
 echo "A sound core is flagged within 1,000 periods with a chance of $bounds."
 echo "The least period by which that chance is 5, 25, 50, 75 and 95 in 100 or more:"

@@ -7,7 +7,8 @@ use lib.ListN.{length}
 use Rattle.runlength.specs.Automaton.{Automaton}
 use Rattle.runlength.specs.Sum.{tab}
 use Rattle.runlength.specs.TabLaws.{length-tab}
-use Rattle.runlength.specs.Future.{EqualFuture}
+use Rattle.runlength.specs.Future.{EqualFuture, SameFirstSignals}
+use Rattle.runlength.specs.FutureLaws.{future-first, first-future}
 use Rattle.runlength.specs.Fewest.{HoldsStates}
 use Rattle.states.specs.Automata.{referenceAutomaton}
 use Rattle.table.specs.declared.TableFigures.{TableFigures}
@@ -27,6 +28,10 @@ module _ (t : TableCall) (f : TableFigures) (accepted : tableOf t .answer ≡ Ta
   pub merged-chain-future : EqualFuture (referenceAutomaton (rulesOf t)) (tableAutomaton (rulesOf t)) [] (tableAutomaton (rulesOf t) .start)
   merged-chain-future = chain-future (rulesOf t) (call .chart .few) (call .chart .bounds)
 
+  -- So it first signals on the same sequences.
+  pub merged-chain-first : SameFirstSignals (referenceAutomaton (rulesOf t)) (tableAutomaton (rulesOf t)) [] (tableAutomaton (rulesOf t) .start)
+  merged-chain-first = future-first (referenceAutomaton (rulesOf t)) (tableAutomaton (rulesOf t)) merged-chain-future
+
   -- Its states are the N numbers from 0: they hold its start, and no quiet move leaves them.
   pub merged-chain-states : (xs : List ℕ) × HoldsStates (tableAutomaton (rulesOf t)) xs × (length xs ≡ f .«state_count»)
   merged-chain-states =
@@ -36,5 +41,7 @@ module _ (t : TableCall) (f : TableFigures) (accepted : tableOf t .answer ≡ Ta
   -- Every chart moved by zones alone, its states of any type, with a list of states that holds its start and all that quiet moves lead to, which
   -- first signals on the same sequences as the plain chart: the list is at least N long.
   pub fewest-states : {B : Type 0} (b : Automaton B) (xs : List B) → HoldsStates b xs
-      → EqualFuture (referenceAutomaton (rulesOf t)) b [] (b .start) → f .«state_count» ≤ length xs
-  fewest-states b xs holds same = rw (call .count-is) (chain-fewest (rulesOf t) (call .chart .few) (call .chart .bounds) b xs holds same)
+      → SameFirstSignals (referenceAutomaton (rulesOf t)) b [] (b .start) → f .«state_count» ≤ length xs
+  fewest-states b xs holds same =
+      rw (call .count-is)
+      (chain-fewest (rulesOf t) (call .chart .few) (call .chart .bounds) b xs holds (first-future (referenceAutomaton (rulesOf t)) b same))

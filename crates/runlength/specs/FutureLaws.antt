@@ -1,14 +1,25 @@
 -- Laws of equal futures: how to show one, that it is an equivalence, and that it gives equal exact distributions.
-use mathlib.Core.Path.{_≡_, refl, sym, ap, _∙_}
-use mathlib.Core.Bool.{true, false}
+use mathlib.Core.Path.{_≡_, refl, sym, ap, ap₂, _∙_}
+use mathlib.Core.Bool.{Bool, true, false, _&&_}
 use mathlib.Core.List.{List, [], _∷_}
 use Prim.Native.Nat.{ℕ, suc, _*_, _<_}
 use native.Mathlib.Omega.{arith}
+use borrow.Author.Tests.{eq-eqb, ne-eqb, eqb-true, eqb-false}
+use lib.Dec.{eqb}
+use lib.ListN.{length}
 use Rattle.runlength.specs.Sum.{only, sumSequences}
 use Rattle.runlength.specs.Sequence.{AllBelow}
 use Rattle.runlength.specs.SequenceLaws.{sequences-cong}
 use Rattle.runlength.specs.Automaton.{Automaton, Move, quiet, signal, after, product, signals, runLength, exactCdf, exactRestrictedMean}
-use Rattle.runlength.specs.Future.{Alike, EqualFuture, Simulation}
+use Rattle.runlength.specs.Future.{Alike, EqualFuture, SameFirstSignals, Simulation}
+
+-- a test of two numbers is one of the next ones
+test-suc : (i j : ℕ) → eqb (suc i) (suc j) ≡ eqb i j
+test-suc i j = go (eqb i j) refl
+  where
+    go : (b : Bool) → eqb i j ≡ b → eqb (suc i) (suc j) ≡ b
+    go true e = eq-eqb (suc i) (suc j) (ap suc (eqb-true i j e))
+    go false e = ne-eqb (suc i) (suc j) (λ q. eqb-false i j e (omega arith))
 
 -- equal futures, the other way round
 pub future-sym : {A B : Type 0} (a : Automaton A) (b : Automaton B) {s : A} {t : B} → EqualFuture a b s t → EqualFuture b a t s
@@ -78,6 +89,38 @@ module _ {A B : Type 0} (a : Automaton A) (b : Automaton B) where
       each (quiet x) signal f g = let o : false ≡ true = f [] tt in absurd (let n : _≡_ {A = ℕ} 0 1 = cc in omega arith)
       each signal (quiet y) f g = let o : true ≡ false = f [] tt in absurd (let n : _≡_ {A = ℕ} 0 1 = cc in omega arith)
       each signal signal f g = tt
+
+  -- ---- the sequences that first signal
+
+  -- equal futures first signal on the same sequences
+  pub future-first : {s : A} {t : B} → EqualFuture a b s t → SameFirstSignals a b s t
+  future-first {s} {t} e = record {
+    same-zones = e .same-zones;
+    same-first = λ q i. ap₂ (λ o k. o && eqb k (length q)) (e .same-signals q i) (e .same-runLength q i);
+  }
+
+  first-kept : (s : A) (t : B) → SameFirstSignals a b s t → (z : ℕ) → z < a .zones → Alike (SameFirstSignals a b) (a .move s z) (b .move t z)
+  unfolding signals runLength AllBelow Alike
+  first-kept s t e z i = each (a .move s z) (b .move t z) (λ q j. e .same-first (z ∷ q) (i, j))
+    where
+      each : (m : Move A) (k : Move B)
+          → ((q : List ℕ) → AllBelow (a .zones) q
+          → (after m true (λ x. signals a x q) && eqb (suc (after m 0 (λ x. runLength a x q))) (suc (length q)))
+          ≡ (after k true (λ y. signals b y q) && eqb (suc (after k 0 (λ y. runLength b y q))) (suc (length q))))
+          → Alike (SameFirstSignals a b) m k
+      each (quiet x) (quiet y) f = record {
+        same-zones = e .same-zones;
+        same-first = λ q j.
+            ap (λ o. signals a x q && o) (sym (test-suc (runLength a x q) (length q))) ∙ f q j
+            ∙ ap (λ o. signals b y q && o) (test-suc (runLength b y q) (length q));
+      }
+      each (quiet x) signal f = let o : false ≡ true = f [] tt in absurd (let n : _≡_ {A = ℕ} 0 1 = cc in omega arith)
+      each signal (quiet y) f = let o : true ≡ false = f [] tt in absurd (let n : _≡_ {A = ℕ} 0 1 = cc in omega arith)
+      each signal signal f = tt
+
+  -- and the other way round
+  pub first-future : {s : A} {t : B} → SameFirstSignals a b s t → EqualFuture a b s t
+  first-future {s} {t} e = simulation-future (SameFirstSignals a b) (record { same-zones = e .same-zones; kept = first-kept }) e
 
   module _ (e : EqualFuture a b (a .start) (b .start)) (weight : ℕ → ℕ) where
     -- equal futures of the starts, equal cdfs
