@@ -10,8 +10,8 @@ mod chart;
 pub use chart::ChartAnswer;
 pub use chart::check_chart;
 
-// What an accepted call answers besides the two lists: document 01's N, left at the horizon, and the cut mean as whole part and fraction
-// in units of 2^-60.
+// What an accepted call answers besides the two lists: N, the number of states that differ, left at the horizon, and the cut mean as whole
+// part and fraction in units of 2^-60.
 pub struct TableFigures {
     pub state_count: u32,
     pub survival: u64,
