@@ -1,6 +1,6 @@
 -- The list of the merged moves is the merged chart, state by state and zone by zone. Laws.
 use Prim.Native.Nat.{ℕ, _+_, _*_, _/_, _%_, _≤_, _<_}
-use mathlib.Core.Path.{_≡_, refl, sym, ap₂, _∙_}
+use mathlib.Core.Path.{_≡_, refl, ap₂, _∙_}
 use mathlib.Core.List.{List}
 use native.Mathlib.Omega.{arith}
 use borrow.Author.Tests.{lt-ltb, le-ltb}
@@ -11,8 +11,8 @@ use Rattle.runlength.specs.TabLaws.{length-tab, getD-tab}
 use Rattle.runlength.specs.Automaton.{Move, quiet, signal, after}
 use Rattle.runlength.specs.Listed.{entryMove, listedAutomaton}
 use Rattle.runlength.specs.ListedLaws.{entry-in}
-use Rattle.runlength.specs.Future.{Alike, EqualFuture}
-use Rattle.runlength.specs.FutureLaws.{simulation-future, future-trans}
+use Rattle.runlength.specs.Future.{EqualFuture}
+use Rattle.runlength.specs.FutureLaws.{simulation-future, future-sym, future-trans, SameBelow, same-simulation}
 use Rattle.runlength.specs.Merged.{classOf, firstOf, mergedMove, mergedAutomaton}
 use Rattle.runlength.specs.MergedLaws.{class-below, count-most, first-of, merged-future}
 use Rattle.merge.specs.Merge.{entryOf, givenChart, mergedCount, mergedMoves}
@@ -60,23 +60,6 @@ module _ (n : ℕ) (m : List ℕ) where
         (class-in (givenChart n m .move (firstOf (givenChart n m) n c) z)
         (λ t. given-closed (firstOf (givenChart n m) n c) z t (first .below) l)))
 
-    -- a class, and the merged state that it is
-    record Same (c d : ℕ) : Type 0 where
-      below : d < mergedCount n m
-      is : c ≡ d
-
-    alike-same : (o : Move ℕ) → ((t : ℕ) → o ≡ quiet t → t < mergedCount n m) → Alike Same o o
-    unfolding Alike
-    alike-same (quiet t) f = record { below = f t refl; is = refl }
-    alike-same signal f = tt
-
-    same-kept : (c d : ℕ) → Same c d → (z : ℕ) → z < zoneCount
-        → Alike Same (mergedMove (givenChart n m) n c z) (listedAutomaton zoneCount (mergedCount n m) (mergedMoves n m) .move d z)
-    same-kept c d p z h =
-        rw (p .is, sym (listed-merged d z (p .below) h))
-        (alike-same (listedAutomaton zoneCount (mergedCount n m) (mergedMoves n m) .move d z)
-        (entry-in (mergedCount n m) (at (mergedMoves n m) (zoneCount * d + z))))
-
     -- The listed chain has, from the class of a state, the state's future.
     pub listed-future : (i : ℕ) → i < n
         → EqualFuture (givenChart n m) (listedAutomaton zoneCount (mergedCount n m) (mergedMoves n m)) i (classOf (givenChart n m) n i)
@@ -84,6 +67,10 @@ module _ (n : ℕ) (m : List ℕ) where
     listed-future i h =
         let given = givenChart n m in
         let listed = listedAutomaton zoneCount (mergedCount n m) (mergedMoves n m) in
-        future-trans given (mergedAutomaton given n) listed (merged-future given n given-closed i h)
-        (simulation-future (mergedAutomaton given n) listed Same (record { same-zones = refl; kept = same-kept })
-        (record { below = class-below given n i h; is = refl }))
+        let merged = mergedAutomaton given n in
+        let closed : (c z t : ℕ) → c < mergedCount n m → z < zoneCount → listed .move c z ≡ quiet t → t < mergedCount n m =
+        λ c z t k g. entry-in (mergedCount n m) (at (mergedMoves n m) (zoneCount * c + z)) t in
+        let same = same-simulation listed merged (mergedCount n m) refl closed (λ c z k g. listed-merged c z k g) in
+        future-trans given merged listed (merged-future given n given-closed i h)
+        (future-sym listed merged
+        (simulation-future listed merged (SameBelow (mergedCount n m)) same (record { below = class-below given n i h; is = refl })))

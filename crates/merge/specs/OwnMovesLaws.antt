@@ -1,6 +1,6 @@
 -- Merging goes by the moves of the n states alone: what stands behind them in the list changes nothing. Laws.
 use Prim.Native.Nat.{ℕ, _+_, _*_, _/_, _%_, _≤_, _<_}
-use mathlib.Core.Path.{_≡_, refl, sym, ap, _∙_}
+use mathlib.Core.Path.{_≡_, refl, ap, _∙_}
 use mathlib.Core.List.{List}
 use native.Mathlib.Omega.{arith}
 use native.Mathlib.Nat.{le-refl}
@@ -11,7 +11,8 @@ use Rattle.runlength.specs.TabLaws.{tab-cong}
 use Rattle.runlength.specs.Automaton.{Move, quiet, signal, after}
 use Rattle.runlength.specs.Listed.{entryMove}
 use Rattle.runlength.specs.ListedLaws.{entry-in}
-use Rattle.runlength.specs.Future.{Alike, Simulation}
+use Rattle.runlength.specs.Future.{Simulation}
+use Rattle.runlength.specs.FutureLaws.{SameBelow, same-simulation}
 use Rattle.runlength.specs.LowestLaws.{lowest-cong}
 use Rattle.runlength.specs.ApartLaws.{simulation-alike}
 use Rattle.runlength.specs.Merged.{leaderFor, leadersFor, classCount, classOf, firstOf, mergedMove}
@@ -19,31 +20,19 @@ use Rattle.runlength.specs.LeadLaws.{lead-cong}
 use Rattle.runlength.specs.ClassLaws.{leader-most}
 use Rattle.runlength.specs.MergedLaws.{first-of}
 use Rattle.merge.specs.Merge.{entryOf, givenChart, mergedCount, mergedMoves}
+use Rattle.merge.specs.MergeLaws.{given-closed}
 
 module _ (n : ℕ) (m m′ : List ℕ) (same : (k : ℕ) → k < zoneCount * n → at m k ≡ at m′ k) where
-  -- a state, the same one of both charts
-  record Same (i j : ℕ) : Type 0 where
-    below : i < n
-    is : i ≡ j
-
-  alike-same : (o : Move ℕ) → ((t : ℕ) → o ≡ quiet t → t < n) → Alike Same o o
-  unfolding Alike
-  alike-same (quiet t) f = record { below = f t refl; is = refl }
-  alike-same signal f = tt
-
-  same-kept : (i j : ℕ) → Same i j → (z : ℕ) → z < zoneCount → Alike Same (givenChart n m .move i z) (givenChart n m′ .move j z)
-  same-kept i j p z h =
-      rw (sym (p .is), sym (same (zoneCount * i + z) (omega (arith, p .below))))
-      (alike-same (givenChart n m .move i z) (entry-in n (at m (zoneCount * i + z))))
-
-  same-chart : Simulation (givenChart n m) (givenChart n m′) Same
-  same-chart = record { same-zones = refl; kept = same-kept }
+  same-chart : Simulation (givenChart n m) (givenChart n m′) (SameBelow n)
+  same-chart =
+      same-simulation (givenChart n m) (givenChart n m′) n refl (given-closed n m)
+      (λ i z h l. ap (entryMove n) (same (zoneCount * i + z) (omega arith)))
 
   same-leader : (i : ℕ) → i < n → leaderFor (givenChart n m) n i ≡ leaderFor (givenChart n m′) n i
   unfolding leaderFor
   same-leader i h =
       lowest-cong _ _ i (λ j l.
-      simulation-alike (givenChart n m) (givenChart n m′) Same same-chart n j i j i
+      simulation-alike (givenChart n m) (givenChart n m′) (SameBelow n) same-chart n j i j i
       (record { below = omega arith; is = refl }) (record { below = h; is = refl }))
 
   same-leaders : (i : ℕ) → i ≤ n → leadersFor (givenChart n m) n i ≡ leadersFor (givenChart n m′) n i

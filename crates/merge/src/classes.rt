@@ -3,7 +3,7 @@ use crate::index;
 use crate::rounds::label_at;
 use rules::ZONES;
 ghost use mathlib.Core.Path.{_≡_};
-ghost use Prim.Native.Nat.{_+_, _*_, _≤_, _<_};
+ghost use Prim.Native.Nat.{_+_, _*_};
 ghost use lib.ListN.{length};
 ghost use Rattle.rules.specs.Bounds.{zoneCount};
 ghost use Rattle.runlength.specs.Sum.{front};

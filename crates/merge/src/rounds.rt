@@ -3,10 +3,9 @@ use crate::index;
 use rules::RuleList;
 use rules::ZONES;
 ghost use mathlib.Core.Path.{_≡_};
-ghost use Prim.Native.Nat.{_*_, _+_, _-_, _≤_, _<_};
+ghost use Prim.Native.Nat.{_≤_, _<_};
 ghost use lib.ListN.{length};
-ghost use Rattle.rules.specs.Bounds.{zoneCount, maxStates};
-ghost use Rattle.runlength.specs.Sum.{at, sum, front};
+ghost use Rattle.runlength.specs.Sum.{at, front};
 ghost use Rattle.merge.specs.Rounds.{labelOf, agreeing, nextLeader, HasRoom, Skips, HoldsLeaders, Refinable, Refined};
 
 // What the list says of the state that entry k leads to, or MAX_STATES for a signal.
@@ -80,7 +79,7 @@ fn copy(from: &[u16], n: usize, to: &mut [u16])
     }
 }
 
-// The first state of each state's class. All lists are 0 before.
+// The first state of each state's class. The leaders are all 0 before, those by no point.
 pub(crate) fn find_leaders(moves: &[u16], n: usize, leaders: &mut [u16], next: &mut [u16])
     requires { ⌜ HasRoom n (now moves) (now leaders) × (n ≤ length (now next)) × HoldsLeaders n (now moves) (now leaders) 0 ⌝ }
     ensures { λ r. ⌜ HoldsLeaders n (now (moves .entry)) (now (leaders .exit)) n × (length (now (leaders .exit)) ≡ length (now (leaders .entry))) ⌝ }

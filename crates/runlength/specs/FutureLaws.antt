@@ -136,3 +136,25 @@ module _ {A B : Type 0} (a : Automaton A) (b : Automaton B) where
     future-mean h =
         sequences-cong (a .zones) h (λ q k i. ap (λ r. product weight q * r) (e .same-runLength q i))
         ∙ ap (λ k. sumSequences k h (λ q. product weight q * runLength b (b .start) q)) (e .same-zones)
+
+-- ---- the same moves
+
+-- a state below n, and the same one again
+pub record SameBelow (n i j : ℕ) : Type 0 where
+  pub below : i < n
+  pub is : i ≡ j
+
+-- charts with the same moves below n, which no quiet move leaves, keep step
+module _ (a b : Automaton ℕ) (n : ℕ) (zones : a .zones ≡ b .zones)
+    (closed : (s z t : ℕ) → s < n → z < a .zones → a .move s z ≡ quiet t → t < n)
+    (same : (s z : ℕ) → s < n → z < a .zones → a .move s z ≡ b .move s z) where
+  alike-same : (m : Move ℕ) → ((t : ℕ) → m ≡ quiet t → t < n) → Alike (SameBelow n) m m
+  unfolding Alike
+  alike-same (quiet t) f = record { below = f t refl; is = refl }
+  alike-same signal f = tt
+
+  pub same-simulation : Simulation a b (SameBelow n)
+  same-simulation = record {
+    same-zones = zones;
+    kept = λ s t p z h. rw (sym (p .is), sym (same s z (p .below) h)) (alike-same (a .move s z) (λ r. closed s z r (p .below) h));
+  }
