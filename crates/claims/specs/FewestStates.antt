@@ -33,10 +33,11 @@ module _ (t : TableCall) (f : TableFigures) (accepted : tableOf t .answer ≡ Ta
   merged-chain-first = future-first (referenceAutomaton (rulesOf t)) (tableAutomaton (rulesOf t)) merged-chain-future
 
   -- Its states are the N numbers from 0: they hold its start, and no quiet move leaves them.
-  pub merged-chain-states : (xs : List ℕ) × HoldsStates (tableAutomaton (rulesOf t)) xs × (length xs ≡ f .«state_count»)
-  merged-chain-states =
-      let n = f .«state_count» in
-      (tab n (λ i. i), rw (call .count-is) (chain-holds (rulesOf t)), length-tab n (λ i. i))
+  pub merged-chain-states : HoldsStates (tableAutomaton (rulesOf t)) (tab (f .«state_count») (λ i. i))
+  merged-chain-states = rw (call .count-is) (chain-holds (rulesOf t))
+
+  pub merged-chain-size : length (tab (f .«state_count») (λ i. i)) ≡ f .«state_count»
+  merged-chain-size = length-tab (f .«state_count») (λ i. i)
 
   -- Every chart moved by zones alone, its states of any type, with a list of states that holds its start and all that quiet moves lead to, which
   -- first signals on the same sequences as the plain chart: the list is at least N long.
