@@ -8,6 +8,23 @@ use Rattle.runlength.specs.Sum.{sum, at}
 use Rattle.runlength.specs.Scale.{weightTotal, unitsPerOne}
 use Rattle.sources.specs.Sources.{gathered, weighed, come, Inside, Light}
 
+-- the units of the source at i
+abbrev pub unitsAt : List ℕ → List ℕ → ℕ → ℕ
+unitsAt us src i = getD us (getD src i 0) 0
+
+-- and of the next too
+abbrev pub pairAt : List ℕ → List ℕ → ℕ → ℕ
+pairAt us src i = unitsAt us src i + unitsAt us src (i + 1)
+
+pub record CanRead (us src : List ℕ) (i : ℕ) : Type 0 where
+  pub within : i < length src
+  pub inside : Inside src (length us)
+
+pub record CanPair (us src : List ℕ) (i : ℕ) : Type 0 where
+  pub within : i + 1 < length src
+  pub inside : Inside src (length us)
+  pub room : pairAt us src i ≤ unitsPerOne
+
 pub record CanGather (us src : List ℕ) (b e : ℕ) : Type 0 where
   pub order : b ≤ e
   pub within : e ≤ length src

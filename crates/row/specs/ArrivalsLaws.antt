@@ -12,40 +12,73 @@ use Rattle.runlength.specs.Scale.{weightTotal, unitsPerOne}
 use Rattle.sources.specs.Sources.{gathered, weighed, come}
 use Rattle.sources.specs.SourcesLaws.{gathered-more, gathered-upto}
 use Rattle.sources.specs.GroupingLaws.{weighed-more}
-use Rattle.row.specs.Arrivals.{CanGather, Gathered, CanWeigh, Weighed, Flows, Arriving, Arrived}
+use Rattle.row.specs.Arrivals.{unitsAt, pairAt, CanRead, CanPair, CanGather, Gathered, CanWeigh, Weighed, Flows, Arriving, Arrived}
+
+-- a source is a state
+pub read-in : {us src : List ℕ} {i s : ℕ} → CanRead us src i → s ≡ getD src i 0 → s < length us
+read-in {i = i} p x = omega (arith, p .inside .inside i)
+
+-- the first and the second of two
+pub pair-first : {us src : List ℕ} {i : ℕ} → CanPair us src i → CanRead us src i
+pair-first p = record { within = omega (arith, p .within); inside = p .inside }
+
+pub pair-second : {us src : List ℕ} {i : ℕ} → CanPair us src i → CanRead us src (i + 1)
+pair-second p = record { within = p .within; inside = p .inside }
+
+-- the source at i, and that behind it
+gathered-pair : (us src : List ℕ) (i : ℕ) → gathered src (at us) (i + 2) ≡ gathered src (at us) i + pairAt us src i
+gathered-pair us src i =
+    let z : i + 1 + 1 ≡ i + 2 = omega arith in
+    omega (arith, gathered-more src (at us) i, gathered-more src (at us) (i + 1), ap (gathered src (at us)) z)
 
 module _ {us src : List ℕ} {b e : ℕ} (p : CanGather us src b e) where
-  pub gather-start : Gathered us src b b 0
-  gather-start = record { value = omega arith }
+  pub gather-read : {i : ℕ} → i < e → CanRead us src i
+  gather-read l = record { within = omega (arith, p .within); inside = p .inside }
 
-  module _ {i s : ℕ} (l : i < e) (x : s ≡ getD src i 0) where
-    pub gather-in : s < length us
-    gather-in = omega (arith, p .inside .inside i)
+  pub gather-pair : {i : ℕ} → b ≤ i → i + 1 < e → CanPair us src i
+  gather-pair {i} h l = record {
+    within = omega (arith, p .within);
+    inside = p .inside;
+    room = omega (
+      arith,
+      gathered-pair us src i,
+      gathered-upto src (at us) b i h,
+      gathered-upto src (at us) (i + 2) e (omega arith),
+      p .room,
+    );
+  }
 
-    more : gathered src (at us) (i + 1) ≡ gathered src (at us) i + getD us s 0
-    more = rw x (gathered-more src (at us) i)
+  -- none, one, and the first two
+  pub gather-none : e ≤ b → Gathered us src b e 0
+  gather-none h = let z : e ≡ b = omega (arith, p .order) in record { value = omega (arith, ap (gathered src (at us)) z) }
 
-    pub gather-room : {r : ℕ} → Gathered us src b i r → r + getD us s 0 ≤ unitsPerOne
-    gather-room c = omega (arith, more, c .value, gathered-upto src (at us) (i + 1) e (omega arith), p .room)
+  pub gather-one : {r : ℕ} → b < e → e ≤ b + 1 → r ≡ unitsAt us src b → Gathered us src b e r
+  gather-one h l x =
+      let z : e ≡ b + 1 = omega arith in
+      record { value = omega (arith, gathered-more src (at us) b, ap (gathered src (at us)) z) }
 
-    pub gather-more : {r : ℕ} → Gathered us src b i r → Gathered us src b (i + 1) (r + getD us s 0)
-    gather-more c = record { value = omega (arith, more, c .value) }
+  pub gather-first : {r i : ℕ} → r ≡ pairAt us src b → i ≡ b + 2 → Gathered us src b i r
+  gather-first {r} {i} x z = record { value = omega (arith, gathered-pair us src b, ap (gathered src (at us)) z) }
 
   -- two sources more
-  module _ {i s t r : ℕ} (l : i + 1 < e) (x : s ≡ getD src i 0) (y : t ≡ getD src (i + 1) 0) (c : Gathered us src b i r) where
-    both : Gathered us src b (i + 1 + 1) (r + getD us s 0 + getD us t 0)
-    both = gather-more l y (gather-more (omega arith) x c)
+  module _ {i x r : ℕ} (l : i + 1 < e) (y : x ≡ pairAt us src i) (c : Gathered us src b i r) where
+    pub gather-two-room : r + x ≤ unitsPerOne
+    gather-two-room =
+        omega (arith, gathered-pair us src i, c .value, gathered-upto src (at us) (i + 2) e (omega arith), p .room)
 
-    pub gather-two-room : r + (getD us s 0 + getD us t 0) ≤ unitsPerOne
-    gather-two-room = omega (arith, gather-room l y (gather-more (omega arith) x c))
-
-    pub gather-two : Gathered us src b (i + 2) (r + (getD us s 0 + getD us t 0))
-    gather-two = let z : i + 1 + 1 ≡ i + 2 = omega arith in record { value = omega (arith, both .value, ap (gathered src (at us)) z) }
+    pub gather-two : Gathered us src b (i + 2) (r + x)
+    gather-two = record { value = omega (arith, gathered-pair us src i, c .value) }
 
   -- the last of an odd number
-  pub gather-last : {i s r : ℕ} → i < e → e ≤ i + 1 → s ≡ getD src i 0 → Gathered us src b i r → Gathered us src b e (r + getD us s 0)
-  gather-last {i} l o x c =
-      let z : i + 1 ≡ e = omega arith in record { value = omega (arith, gather-more l x c .value, ap (gathered src (at us)) z) }
+  module _ {i x r : ℕ} (l : i < e) (y : x ≡ unitsAt us src i) (c : Gathered us src b i r) where
+    pub gather-room : r + x ≤ unitsPerOne
+    gather-room =
+        omega (arith, gathered-more src (at us) i, c .value, gathered-upto src (at us) (i + 1) e (omega arith), p .room)
+
+    pub gather-last : e ≤ i + 1 → Gathered us src b e (r + x)
+    gather-last o =
+        let z : i + 1 ≡ e = omega arith in
+        record { value = omega (arith, gathered-more src (at us) i, c .value, ap (gathered src (at us)) z) }
 
 pub gather-done : {us src : List ℕ} {b i e r : ℕ} → i ≤ e → e ≤ i → Gathered us src b i r → Gathered us src b e r
 gather-done {i = i} {e = e} x y c = let z : i ≡ e = omega arith in rw z at c

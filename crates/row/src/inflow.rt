@@ -1,7 +1,7 @@
 // What comes into a state in one point: the units of a group's sources are added first, and their sum is multiplied once.
 ghost use mathlib.Core.Path.{_≡_};
 ghost use Prim.Native.Nat.{_+_};
-ghost use Rattle.row.specs.Arrivals.{CanGather, Gathered, CanWeigh, Weighed, Flows, Arrived};
+ghost use Rattle.row.specs.Arrivals.{unitsAt, pairAt, CanRead, CanPair, CanGather, Gathered, CanWeigh, Weighed, Flows, Arrived};
 use runlength::WEIGHT_TOTAL;
 use sources::index;
 
@@ -12,22 +12,44 @@ fn wide(x: u32) -> u64
     x as u64
 }
 
-// The units of the sources from `first` to before `last`, two at a time.
+// The units of the source at e.
+fn source_at(units: &[u64], sources: &[u16], e: usize) -> u64
+    requires { ⌜ CanRead (now units) (now sources) e ⌝ }
+    ensures { λ r. ⌜ r ≡ unitsAt (now (units .entry)) (now (sources .entry)) e ⌝ }
+{
+    let s = index(sources[e]);
+    units[s]
+}
+
+// The units of the source at e and of the next.
+fn pair_at(units: &[u64], sources: &[u16], e: usize) -> u64
+    requires { ⌜ CanPair (now units) (now sources) e ⌝ }
+    ensures { λ r. ⌜ r ≡ pairAt (now (units .entry)) (now (sources .entry)) e ⌝ }
+{
+    let a = source_at(units, sources, e);
+    let b = source_at(units, sources, e + 1);
+    a + b
+}
+
+// The units of the sources from `first` to before `last`, two at a time. One or two, as most groups have, need no loop.
 fn gather(units: &[u64], sources: &[u16], first: usize, last: usize) -> u64
     requires { ⌜ CanGather (now units) (now sources) first last ⌝ }
     ensures { λ r. ⌜ Gathered (now (units .entry)) (now (sources .entry)) first last r ⌝ }
 {
-    let mut sum: u64 = 0;
-    let mut e = first;
+    if last <= first + 1 {
+        if first < last {
+            return source_at(units, sources, first);
+        }
+        return 0;
+    }
+    let mut sum = pair_at(units, sources, first);
+    let mut e = first + 2;
     while e + 1 < last {
-        let a = index(sources[e]);
-        let b = index(sources[e + 1]);
-        sum += units[a] + units[b];
+        sum += pair_at(units, sources, e);
         e += 2;
     }
     if e < last {
-        let a = index(sources[e]);
-        return sum + units[a];
+        return sum + source_at(units, sources, e);
     }
     sum
 }

@@ -1,8 +1,10 @@
 -- `inflow::gather` meets its contract: after each turn the sources from the first to before e are added.
-use Prim.Native.Nat.{_-_, _≤_}
+use Prim.Native.Nat.{_+_, _-_, _≤_}
 use native.Mathlib.Omega.{arith}
+use native.Mathlib.Nat.{le-refl}
+use Rattle.runlength.specs.Scale.{unitsPerOne}
 use Rattle.row.specs.Arrivals.{Gathered}
-use Rattle.row.specs.ArrivalsLaws.{gather-start, gather-in, gather-room, gather-two-room, gather-two, gather-last, gather-done}
+use Rattle.row.specs.ArrivalsLaws.{gather-read, gather-pair, gather-none, gather-one, gather-first, gather-two-room, gather-two, gather-room, gather-last, gather-done}
 use borrow.Author.Needs.{needs}
 use Rattle.row.proofs.inflow.gather.Statement.{statement}
 use Rattle.row.proofs.inflow.gather.Tie as tie
@@ -13,83 +15,60 @@ Inv-loop units sources first last sum₀ e₀ sum e = (first ≤ e) × (e ≤ la
 abbrev μ-loop : tie.MeasureT-loop
 μ-loop units sources first last sum₀ e₀ sum e = last - e
 
+add-if1 : tie.Need-add-if1 Inv-loop μ-loop
+add-if1 c = search needs
+
+source-at-requires : tie.Need-source-at-requires Inv-loop μ-loop
+source-at-requires c κs = search gather-read
+
+returns : tie.Need-returns Inv-loop μ-loop
+returns c = search gather-one
+
+returns-2 : tie.Need-returns-2 Inv-loop μ-loop
+returns-2 c = search gather-none
+
+pair-at-requires : tie.Need-pair-at-requires Inv-loop μ-loop
+pair-at-requires c κs = search (gather-pair, le-refl)
+
+add-e : tie.Need-add-e Inv-loop μ-loop
+add-e c = search needs
+
 loop-holds : tie.Need-loop-holds Inv-loop μ-loop
-loop-holds c = (omega arith, omega arith, search gather-start)
+loop-holds c = (omega arith, omega arith, search gather-first)
 
 add-loop : tie.Need-add-loop Inv-loop μ-loop
 add-loop c = search needs
 
-mul-index : tie.Need-mul-index Inv-loop μ-loop
-mul-index c = search needs
-
-shared-slice-read-index : tie.Need-shared-slice-read-index Inv-loop μ-loop
-shared-slice-read-index c = search needs
-
-index-requires : tie.Need-index-requires Inv-loop μ-loop
-index-requires c κs = search needs
-
-add-index : tie.Need-add-index Inv-loop μ-loop
-add-index c = search needs
-
-mul-index-2 : tie.Need-mul-index-2 Inv-loop μ-loop
-mul-index-2 c = search needs
-
-shared-slice-read-index-2 : tie.Need-shared-slice-read-index-2 Inv-loop μ-loop
-shared-slice-read-index-2 c = search needs
-
-index-requires-2 : tie.Need-index-requires-2 Inv-loop μ-loop
-index-requires-2 c κs = search needs
-
-mul-sum : tie.Need-mul-sum Inv-loop μ-loop
-mul-sum c = omega (arith, gather-in (c .before .before .before .before .before .before .before .before .pre) (omega arith) (c .before .before .index .ensures))
-
-shared-slice-read-sum : tie.Need-shared-slice-read-sum Inv-loop μ-loop
-shared-slice-read-sum c = gather-in (c .before .before .before .before .before .before .before .before .before .pre) (omega arith) (c .before .before .before .index .ensures)
-
-mul-sum-2 : tie.Need-mul-sum-2 Inv-loop μ-loop
-mul-sum-2 c = omega (arith, gather-in (c .before .before .before .before .before .before .before .before .before .pre) (omega arith) (c .before .index2 .ensures))
-
-shared-slice-read-sum-2 : tie.Need-shared-slice-read-sum-2 Inv-loop μ-loop
-shared-slice-read-sum-2 c = gather-in (c .before .before .before .before .before .before .before .before .before .before .pre) (omega arith) (c .before .before .index2 .ensures)
+pair-at-requires-2 : tie.Need-pair-at-requires-2 Inv-loop μ-loop
+pair-at-requires-2 c κs = search gather-pair
 
 add-sum : tie.Need-add-sum Inv-loop μ-loop
-add-sum c = omega (arith, gather-two-room (c .before .before .before .before .before .before .before .before .before .before .pre) (omega arith) (c .before .before .before .before .index .ensures) (c .before .before .index2 .ensures) (c .before .before .before .before .before .before .before .loop .inv .2))
+add-sum c =
+    let h : c .before .before .loop .sum + c .pair-at2 .result ≤ unitsPerOne = search gather-two-room in
+    omega arith
 
-add-sum-2 : tie.Need-add-sum-2 Inv-loop μ-loop
-add-sum-2 c = omega (arith, gather-two-room (c .before .before .before .before .before .before .before .before .before .before .pre) (omega arith) (c .before .before .before .before .index .ensures) (c .before .before .index2 .ensures) (c .before .before .before .before .before .before .before .loop .inv .2))
-
-add-e : tie.Need-add-e Inv-loop μ-loop
-add-e c = search needs
+add-e-2 : tie.Need-add-e-2 Inv-loop μ-loop
+add-e-2 c = search needs
 
 loop-less : tie.Need-loop-less Inv-loop μ-loop
 loop-less c = search needs
 
 loop-again : tie.Need-loop-again Inv-loop μ-loop
-loop-again c = (omega arith, omega arith, gather-two (c .before .before .before .before .before .before .before .before .before .before .pre) (omega arith) (c .before .before .before .before .index .ensures) (c .before .before .index2 .ensures) (c .before .before .before .before .before .before .before .loop .inv .2))
+loop-again c = (omega arith, omega arith, search gather-two)
 
-mul-index-3 : tie.Need-mul-index-3 Inv-loop μ-loop
-mul-index-3 c = search needs
-
-shared-slice-read-index-3 : tie.Need-shared-slice-read-index-3 Inv-loop μ-loop
-shared-slice-read-index-3 c = search needs
-
-index-requires-3 : tie.Need-index-requires-3 Inv-loop μ-loop
-index-requires-3 c κs = search needs
-
-mul-result : tie.Need-mul-result Inv-loop μ-loop
-mul-result c = omega (arith, gather-in (c .before .before .before .before .before .before .before .pre) (omega arith) (c .index3 .ensures))
-
-shared-slice-read-result : tie.Need-shared-slice-read-result Inv-loop μ-loop
-shared-slice-read-result c = gather-in (c .before .before .before .before .before .before .before .before .pre) (omega arith) (c .before .index3 .ensures)
+source-at-requires-2 : tie.Need-source-at-requires-2 Inv-loop μ-loop
+source-at-requires-2 c κs = search gather-read
 
 add-result : tie.Need-add-result Inv-loop μ-loop
-add-result c = omega (arith, gather-room (c .before .before .before .before .before .before .before .before .pre) (omega arith) (c .before .index3 .ensures) (c .before .before .before .before .before .loop .inv .2))
+add-result c =
+    let h : c .before .before .before .loop .sum + c .source-at2 .result ≤ unitsPerOne = search gather-room in
+    omega arith
 
-returns : tie.Need-returns Inv-loop μ-loop
-returns c = gather-last (c .before .before .before .before .before .before .before .before .pre) (omega arith) (omega arith) (c .before .index3 .ensures) (c .before .before .before .before .before .loop .inv .2)
+returns-3 : tie.Need-returns-3 Inv-loop μ-loop
+returns-3 c = search gather-last
 
-returns-2 : tie.Need-returns-2 Inv-loop μ-loop
-returns-2 c = search gather-done
+returns-4 : tie.Need-returns-4 Inv-loop μ-loop
+returns-4 c = search gather-done
 
 pub gather-spec : {M : Type 1} → statement M
 gather-spec =
@@ -97,29 +76,20 @@ gather-spec =
     (tie.spec
     Inv-loop
     μ-loop
+    add-if1
+    source-at-requires
+    returns
+    returns-2
+    pair-at-requires
+    add-e
     loop-holds
     add-loop
-    mul-index
-    shared-slice-read-index
-    index-requires
-    add-index
-    mul-index-2
-    shared-slice-read-index-2
-    index-requires-2
-    mul-sum
-    shared-slice-read-sum
-    mul-sum-2
-    shared-slice-read-sum-2
+    pair-at-requires-2
     add-sum
-    add-sum-2
-    add-e
+    add-e-2
     loop-less
     loop-again
-    mul-index-3
-    shared-slice-read-index-3
-    index-requires-3
-    mul-result
-    shared-slice-read-result
+    source-at-requires-2
     add-result
-    returns
-    returns-2)
+    returns-3
+    returns-4)
