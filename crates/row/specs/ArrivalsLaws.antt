@@ -18,13 +18,6 @@ use Rattle.row.specs.Arrivals.{unitsAt, pairAt, CanRead, CanPair, CanGat
 pub read-in : {us src : List ℕ} {i s : ℕ} → CanRead us src i → s ≡ getD src i 0 → s < length us
 read-in {i = i} p x = omega (arith, p .inside .inside i)
 
--- the first and the second of two
-pub pair-first : {us src : List ℕ} {i : ℕ} → CanPair us src i → CanRead us src i
-pair-first p = record { within = omega (arith, p .within); inside = p .inside }
-
-pub pair-second : {us src : List ℕ} {i : ℕ} → CanPair us src i → CanRead us src (i + 1)
-pair-second p = record { within = p .within; inside = p .inside }
-
 -- the source at i, and that behind it
 gathered-pair : (us src : List ℕ) (i : ℕ) → gathered src (at us) (i + 2) ≡ gathered src (at us) i + pairAt us src i
 gathered-pair us src i =

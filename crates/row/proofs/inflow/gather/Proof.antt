@@ -4,7 +4,8 @@ use native.Mathlib.Omega.{arith}
 use native.Mathlib.Nat.{le-refl}
 use Rattle.runlength.specs.Scale.{unitsPerOne}
 use Rattle.row.specs.Arrivals.{Gathered}
-use Rattle.row.specs.ArrivalsLaws.{gather-read, gather-pair, gather-none, gather-one, gather-first, gather-two-room, gather-two, gather-room, gather-last, gather-done}
+use Rattle.row.specs.ArrivalsLaws.{gather-read, gather-pair, gather-none, gather-one, gather-first}
+use Rattle.row.specs.ArrivalsLaws.{gather-two-room, gather-two, gather-room, gather-last, gather-done}
 use borrow.Author.Needs.{needs}
 use Rattle.row.proofs.inflow.gather.Statement.{statement}
 use Rattle.row.proofs.inflow.gather.Tie as tie
