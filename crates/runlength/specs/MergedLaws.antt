@@ -57,11 +57,6 @@ module _ (a : Automaton ℕ) (n : ℕ) where
   unfolding classOf
   class-leads i e = ap (leadersFor a n) e
 
-  -- the class of a state is that of its leader
-  pub class-leader : (i : ℕ) → classOf a n (leaderFor a n i) ≡ classOf a n i
-  unfolding classOf
-  class-leader i = ap (leadersFor a n) (leader-leads a n i)
-
   pub class-start : classOf a n 0 ≡ 0
   unfolding classOf leadBefore sum
   class-start = rw (first-leads a n)
