@@ -25,7 +25,7 @@ packages_of() {
     cargo | rustc) if grep -qs '^VERSION_ID="12"' /etc/os-release; then echo cargo-web rustc-web; else echo cargo rustc; fi ;;
     gcc | cc) echo gcc libc6-dev ;;
     g++ | c++) echo g++ ;;
-    clang) echo clang ;;
+    clang | clang++) echo clang ;;
     gnuplot) echo gnuplot-nox ;;
   esac
 }

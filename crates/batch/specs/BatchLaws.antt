@@ -21,9 +21,9 @@ use Rattle.rules.specs.Refusal.{notRefused, badSigma, badState, badCount}
 use Rattle.monitor.specs.declared.Monitor.{Monitor}
 use Rattle.monitor.specs.declared.Step.{Step}
 use Rattle.monitor.specs.declared.Taken.{Taken}
-use Rattle.monitor.specs.State.{validState}
+use Rattle.window.specs.State.{validState}
 use Rattle.monitor.specs.StepLaws.{stepTaken}
-use Rattle.monitor.specs.WindowLaws.{le-or-lt}
+use Rattle.window.specs.WindowLaws.{le-or-lt}
 use Rattle.monitor.specs.Reading.{readingStep, readingCheck, Readable, pointAt}
 use Rattle.monitor.specs.ReadingLaws.{reading-refused, reading-accepted, check-bad-rules, check-bad-sigma, check-bad-state, check-bad-count, check-accepted}
 use Rattle.monitor.specs.ReadingLaws.{reading-bad-count, reading-taken, reading-next}

@@ -3,7 +3,7 @@ pub mod Bracket
 pub mod Contains
 pub mod AcceptedBracket
 pub mod Reached
-pub mod CdfLaws
+pub mod TotalLaws
 pub mod LeastLaws
 pub mod QuotientLaws
 pub mod ReachedLaws

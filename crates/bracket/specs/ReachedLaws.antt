@@ -15,7 +15,7 @@ use Rattle.runlength.specs.Scale.{maxHorizon, unitsPerOne, percentsPerOne}
 use Rattle.runlength.specs.Chain.{cdfOf}
 use Rattle.bracket.specs.Bracket.{reaches, passes, lowTest, highTest}
 use Rattle.bracket.specs.Reached.{Summable, Searched, reachTest}
-use Rattle.bracket.specs.CdfLaws.{cdf-zero, cdf-more, cdf-upto}
+use Rattle.runlength.specs.CdfLaws.{cdf-zero, cdf-more, cdf-upto}
 use Rattle.bracket.specs.LeastLaws.{least-start, least-on, least-here, least-end}
 use Rattle.bracket.specs.QuotientLaws.{at-least-share, over-share}
 

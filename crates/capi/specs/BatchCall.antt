@@ -6,7 +6,7 @@ use mathlib.Core.List.{List}
 use lib.Dec.{eqb}
 use lib.ListN.{set}
 use Rattle.batch.specs.declared.Batch.{Batch}
-use Rattle.capi.specs.Codes.{codeOf}
+use Rattle.codes.specs.Codes.{codeOf}
 use Rattle.capi.specs.MonitorCall.{stateAs, pointsAs}
 
 -- a refusal answers the call only where no reading was taken; else it is told among the answer's numbers

@@ -8,7 +8,7 @@ use Rattle.rules.specs.declared.RuleList.{RuleList}
 use Rattle.monitor.specs.declared.Monitor.{Monitor}
 use Rattle.batch.specs.declared.Batch.{Batch}
 use Rattle.batch.specs.Batch.{batchOf}
-use Rattle.capi.specs.Codes.{codeOf}
+use Rattle.codes.specs.Codes.{codeOf}
 use Rattle.capi.specs.MonitorCall.{stateAs, pointsAs}
 use Rattle.capi.specs.BatchCall.{batchCode, batchAs, BatchCall}
 

@@ -8,7 +8,7 @@ use Rattle.bracket.specs.declared.BracketAnswer.the-variants.{Accepted, Refused
 use Rattle.bracket.specs.declared.Place.{Place}
 use Rattle.bracket.specs.declared.Place.the-variants.{At, Between, Open, Beyond}
 use Rattle.bracket.specs.Bracket.{bracketOf}
-use Rattle.capi.specs.Codes.{codeOf}
+use Rattle.codes.specs.Codes.{codeOf}
 
 -- three places of an array
 abbrev pub written : ℕ → ℕ → ℕ → List ℕ → List ℕ

@@ -1,5 +1,4 @@
 -- What the exported functions mean.
-pub mod Codes
 pub mod ListCall
 pub mod TableCall
 pub mod TableCallLaws

@@ -2,7 +2,7 @@
 use Prim.Native.Nat.{ℕ, _+_, _*_}
 use Rattle.rules.specs.declared.Checked.{Checked}
 use Rattle.rules.specs.declared.Checked.the-variants.{Accepted, Refused}
-use Rattle.capi.specs.Codes.{codeOf}
+use Rattle.codes.specs.Codes.{codeOf}
 
 -- 0 for an accepted list
 abbrev pub checkCode : Checked → ℕ

@@ -10,7 +10,7 @@ use Rattle.monitor.specs.declared.Monitor.{Monitor}
 use Rattle.monitor.specs.declared.Step.{Step}
 use Rattle.monitor.specs.Zone.{zoneOf}
 use Rattle.monitor.specs.Step.{monitorAt, stepOf}
-use Rattle.capi.specs.Codes.{codeOf}
+use Rattle.codes.specs.Codes.{codeOf}
 
 -- ---- the zone of a reading
 

@@ -3,10 +3,10 @@ use Prim.Native.Nat.{ℕ}
 use mathlib.Core.Path.{_≡_}
 use mathlib.Core.List.{List}
 use lib.ListN.{length, set}
-use Rattle.report.specs.declared.ReportAnswer.{ReportAnswer}
-use Rattle.report.specs.declared.ReportAnswer.the-variants.{Written}
-use Rattle.report.specs.Printed.{Printed, lines, refusedBy, reportOf}
-use Rattle.capi.specs.Codes.{codeOf}
+use Rattle.write.specs.declared.ReportAnswer.{ReportAnswer}
+use Rattle.write.specs.declared.ReportAnswer.the-variants.{Written}
+use Rattle.write.specs.Printed.{Printed, lines, refusedBy, reportOf}
+use Rattle.codes.specs.Codes.{codeOf}
 
 -- the code of a report's answer, and what the count's array of one place then holds
 abbrev pub answerCode : ReportAnswer → ℕ

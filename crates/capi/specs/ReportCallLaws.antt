@@ -4,10 +4,10 @@ use mathlib.Core.List.{List}
 use Prim.Native.Nat.{ℕ}
 use lib.ListN.{length, set}
 use Rattle.rules.specs.declared.refusal.Refusal.{Refusal}
-use Rattle.report.specs.declared.ReportAnswer.{ReportAnswer}
-use Rattle.report.specs.declared.ReportAnswer.the-variants.{Written}
-use Rattle.report.specs.Printed.{Printed, lines, refusedBy, Report, report, reportOf}
-use Rattle.capi.specs.Codes.{codeOf}
+use Rattle.write.specs.declared.ReportAnswer.{ReportAnswer}
+use Rattle.write.specs.declared.ReportAnswer.the-variants.{Written}
+use Rattle.write.specs.Printed.{Printed, lines, refusedBy, Report, report, reportOf}
+use Rattle.codes.specs.Codes.{codeOf}
 use Rattle.capi.specs.ReportCall.{answerCode, answerCount, ReportCall}
 
 -- a is the report's answer

@@ -6,7 +6,7 @@ use lib.IntN.{ℤ}
 use Rattle.rules.specs.Weights.{weightList}
 use Rattle.shift.specs.declared.ShiftAnswer.{ShiftAnswer}
 use Rattle.shift.specs.Shift.{shiftOf}
-use Rattle.capi.specs.Codes.{codeOf}
+use Rattle.codes.specs.Codes.{codeOf}
 
 abbrev pub shiftCode : ShiftAnswer → ℕ
 shiftCode (ShiftAnswer.Accepted w) = 0

@@ -6,7 +6,7 @@ use lib.ListN.{set}
 use Rattle.table.specs.declared.TableAnswer.{TableAnswer}
 use Rattle.table.specs.declared.TableAnswer.the-variants.{Accepted, Refused}
 use Rattle.table.specs.Table.{TableCall, tableOf}
-use Rattle.capi.specs.Codes.{codeOf}
+use Rattle.codes.specs.Codes.{codeOf}
 
 -- 0 for an accepted call
 abbrev pub tableCode : TableAnswer → ℕ

@@ -8,7 +8,7 @@ use Rattle.table.specs.declared.TableAnswer.{TableAnswer}
 use Rattle.table.specs.declared.TableAnswer.the-variants.{Accepted, Refused}
 use Rattle.table.specs.declared.TableFigures.{TableFigures}
 use Rattle.table.specs.Table.{TableCall, TableResult, tableResult, tableOf}
-use Rattle.capi.specs.Codes.{codeOf}
+use Rattle.codes.specs.Codes.{codeOf}
 use Rattle.capi.specs.TableCall.{tableCode, figuresAfter, TableCalled}
 
 -- a is the table's answer

@@ -1,13 +1,13 @@
 // A batch of readings for callers in C and Rust.
-use crate::codes::code;
-use crate::codes::list_of;
-use crate::sizes::BATCH_ANSWER;
-use crate::sizes::SLOTS;
 use batch::Batch;
+use codes::code;
+use codes::list_of;
+use codes::sizes::BATCH_ANSWER;
+use codes::sizes::SLOTS;
 use monitor::Monitor;
 ghost use mathlib.Core.Path.{_≡_};
 ghost use Rattle.batch.specs.Batch.{batchOf};
-ghost use Rattle.capi.specs.Codes.{slotList};
+ghost use Rattle.codes.specs.Codes.{slotList};
 ghost use Rattle.capi.specs.MonitorCall.{monitorOf, stateAs, pointsAs};
 ghost use Rattle.capi.specs.BatchCall.{batchCode, batchAs, BatchCall};
 

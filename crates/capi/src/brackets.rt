@@ -1,8 +1,8 @@
 // The percentile bracket for callers in C and Rust.
-use crate::codes::code;
-use crate::sizes::BRACKET_ANSWER;
 use bracket::BracketAnswer;
 use bracket::Place;
+use codes::code;
+use codes::sizes::BRACKET_ANSWER;
 ghost use mathlib.Core.Path.{_≡_};
 ghost use Rattle.capi.specs.BracketCall.{written, placeAs, BracketCalled};
 

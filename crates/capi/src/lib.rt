@@ -1,17 +1,16 @@
 // The exported functions, for callers in C and Rust: numbers, fixed-size arrays and slices.
 mod batches;
 mod brackets;
-mod codes;
 mod lists;
 mod monitors;
 mod plots;
 mod reports;
 mod shifts;
-pub mod sizes;
 mod tables;
 
 pub use batches::catrovindy_batch;
 pub use brackets::catrovindy_bracket;
+pub use lists::VERSION;
 pub use lists::catrovindy_check;
 pub use lists::catrovindy_version;
 pub use monitors::catrovindy_step;

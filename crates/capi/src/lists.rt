@@ -1,13 +1,15 @@
 // The check of a rule list, and the library's version, for callers in C and Rust.
-use crate::codes::code;
-use crate::codes::list_of;
-use crate::sizes::SLOTS;
-use crate::sizes::VERSION;
+use codes::code;
+use codes::list_of;
+use codes::sizes::SLOTS;
 use rules::Checked;
 ghost use mathlib.Core.Path.{_≡_};
 ghost use Rattle.rules.specs.Check.{checkOf};
-ghost use Rattle.capi.specs.Codes.{slotList};
+ghost use Rattle.codes.specs.Codes.{slotList};
 ghost use Rattle.capi.specs.ListCall.{checkCode, version};
+
+// Version 0.8.0: ten thousand times the first number, a hundred times the second, and the third.
+pub const VERSION: u32 = 800;
 
 // Whether a rule list is accepted: `RuleList::check`. Answers 0, or the refusal.
 #[no_mangle]

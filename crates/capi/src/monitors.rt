@@ -1,14 +1,14 @@
 // The monitor for callers in C and Rust. It is kept by the caller as two numbers: the state and the points counted, both 0 at the start.
-use crate::codes::code;
-use crate::codes::list_of;
-use crate::sizes::SLOTS;
-use crate::sizes::STEP_ANSWER;
+use codes::code;
+use codes::list_of;
+use codes::sizes::SLOTS;
+use codes::sizes::STEP_ANSWER;
 use monitor::Monitor;
 use monitor::Step;
 use monitor::zone::ZoneAnswer;
 use monitor::zone::zone_of;
 ghost use mathlib.Core.Path.{_≡_};
-ghost use Rattle.capi.specs.Codes.{slotList};
+ghost use Rattle.codes.specs.Codes.{slotList};
 ghost use Rattle.capi.specs.MonitorCall.{monitorOf, stateAs, pointsAs, answerAs, ZoneCall, StepCall};
 
 // The zone of a reading: `monitor::zone::zone_of`. Answers 0 and writes the zone; or answers the refusal and alters nothing.

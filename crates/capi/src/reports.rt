@@ -1,10 +1,10 @@
 // The programs' reports for callers in C and Rust.
-use crate::codes::code;
-use report::ReportAnswer;
+use codes::code;
+use write::ReportAnswer;
 ghost use mathlib.Core.Path.{_≡_};
-ghost use Rattle.report.specs.TableReport.{tablePrinted};
-ghost use Rattle.report.specs.MonitorReport.{monitorPrinted};
-ghost use Rattle.report.specs.WeightsReport.{weightsPrinted};
+ghost use Rattle.table_report.specs.TableReport.{tablePrinted};
+ghost use Rattle.monitor_report.specs.MonitorReport.{monitorPrinted};
+ghost use Rattle.weights_report.specs.WeightsReport.{weightsPrinted};
 ghost use Rattle.capi.specs.ReportCall.{answerCode, answerCount, ReportCall};
 
 // The code of a report's answer, and its number of bytes in `bytes`.
@@ -20,44 +20,44 @@ fn report_code(answer: ReportAnswer, bytes: &mut [u64; 1]) -> u64
     }
 }
 
-// The table program's lines for a text: `report::table_report`. Answers 0, with the lines in `out` and their number of bytes in `bytes`; or
+// The table program's lines for a text: `table_report::table_report`. Answers 0, with the lines in `out` and their number of bytes in `bytes`; or
 // answers the refusal and alters nothing.
 #[no_mangle]
 pub extern "C" fn catrovindy_table_report(
     text: &[u8],
-    out: &mut [u8; ReportAnswer::TABLE_SIZE],
+    out: &mut [u8; table_report::TABLE_SIZE],
     bytes: &mut [u64; 1],
 ) -> u64
     ensures { λ r. ⌜ ReportCall (tablePrinted (now (text .entry))) (now (out .entry)) (now (bytes .entry)) (now (out .exit)) (now (bytes .exit)) r ⌝ }
 {
-    let answer = report::table_report(text, out);
+    let answer = table_report::table_report(text, out);
     report_code(answer, bytes)
 }
 
-// The monitor program's lines for a text: `report::monitor_report`. Answers 0, with the lines in `out` and their number of bytes in `bytes`;
+// The monitor program's lines for a text: `monitor_report::monitor_report`. Answers 0, with the lines in `out` and their number of bytes in `bytes`;
 // or answers the refusal and alters nothing.
 #[no_mangle]
 pub extern "C" fn catrovindy_monitor_report(
     text: &[u8],
-    out: &mut [u8; ReportAnswer::MONITOR_SIZE],
+    out: &mut [u8; monitor_report::MONITOR_SIZE],
     bytes: &mut [u64; 1],
 ) -> u64
     ensures { λ r. ⌜ ReportCall (monitorPrinted (now (text .entry))) (now (out .entry)) (now (bytes .entry)) (now (out .exit)) (now (bytes .exit)) r ⌝ }
 {
-    let answer = report::monitor_report(text, out);
+    let answer = monitor_report::monitor_report(text, out);
     report_code(answer, bytes)
 }
 
-// The weights program's line for a text: `report::weights_report`. Answers 0, with the line in `out` and its number of bytes in `bytes`; or
+// The weights program's line for a text: `weights_report::weights_report`. Answers 0, with the line in `out` and its number of bytes in `bytes`; or
 // answers the refusal and alters nothing.
 #[no_mangle]
 pub extern "C" fn catrovindy_weights_report(
     text: &[u8],
-    out: &mut [u8; ReportAnswer::WEIGHTS_SIZE],
+    out: &mut [u8; weights_report::WEIGHTS_SIZE],
     bytes: &mut [u64; 1],
 ) -> u64
     ensures { λ r. ⌜ ReportCall (weightsPrinted (now (text .entry))) (now (out .entry)) (now (bytes .entry)) (now (out .exit)) (now (bytes .exit)) r ⌝ }
 {
-    let answer = report::weights_report(text, out);
+    let answer = weights_report::weights_report(text, out);
     report_code(answer, bytes)
 }

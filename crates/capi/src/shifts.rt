@@ -1,5 +1,5 @@
 // The weights of a shifted core for callers in C and Rust.
-use crate::codes::code;
+use codes::code;
 use rules::ZONES;
 use rules::weight_array;
 use shift::ShiftAnswer;

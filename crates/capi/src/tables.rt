@@ -1,11 +1,11 @@
 // The run-length table for callers in C and Rust.
-use crate::codes::code;
-use crate::codes::list_of;
-use crate::sizes::FIGURES;
-use crate::sizes::SLOTS;
+use codes::code;
+use codes::list_of;
+use codes::sizes::FIGURES;
+use codes::sizes::SLOTS;
 use rules::ZONES;
 use table::TableAnswer;
-ghost use Rattle.capi.specs.Codes.{slotList};
+ghost use Rattle.codes.specs.Codes.{slotList};
 ghost use Rattle.table.specs.Table.{tableCall};
 ghost use Rattle.capi.specs.TableCall.{TableCalled};
 

@@ -9,7 +9,7 @@ use Rattle.runlength.specs.Scale.{weightTotal, unitsPerOne}
 use Rattle.runlength.specs.Chain.{restrictedMean, meanErrorBound, errorBoundOf}
 use Rattle.runlength.specs.Percentile.{Percentile}
 use Rattle.runlength.specs.RestrictedMean.{mean-lower, mean-upper}
-use Rattle.table.specs.TableChain.{stateCount}
+use Rattle.chain.specs.TableChain.{stateCount}
 use Rattle.table.specs.Table.{TableCall, rulesOf, chainOf, pmfOf}
 use Rattle.bracket.specs.declared.Place.{Place}
 use Rattle.bracket.specs.declared.Place.the-variants.{At, Between, Open, Beyond}

@@ -14,9 +14,9 @@ use Rattle.runlength.specs.Automaton.{Automaton, product}
 use Rattle.runlength.specs.Chain.{Chain}
 use Rattle.runlength.specs.Listed.{listedChain}
 use Rattle.monitor.specs.Zone.{zoneS, zoneA1, zoneB1, zoneC1, zoneC2, zoneB2, zoneA2, zoneC0}
-use Rattle.monitor.specs.ReferenceChart.{Answer}
+use Rattle.window.specs.ReferenceChart.{Answer}
 use Rattle.states.specs.States.{states, moves}
-use Rattle.table.specs.TableChain.{tableAutomaton}
+use Rattle.chain.specs.TableChain.{tableAutomaton}
 use Rattle.claims.specs.Exact.{freeAnswers, isSignal, saysSignal, firstSignal}
 
 -- ---- rules and rows

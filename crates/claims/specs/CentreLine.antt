@@ -23,11 +23,11 @@ use Rattle.monitor.specs.declared.zone.ZoneAnswer.the-variants.{Zone}
 use Rattle.monitor.specs.Zone.{minSigma, maxSigma, zoneC0, zoneAt, zoneOf}
 use Rattle.monitor.specs.ZoneLaws.{zone-fits, centre-alone}
 use Rattle.monitor.specs.Step.{freshMonitor}
-use Rattle.monitor.specs.ReferenceChart.{refused, hitsAmong, ruleHolds, rowMask}
-use Rattle.monitor.specs.ReferenceChart.{charted, chartBy, chartStep, chartAnswers}
+use Rattle.window.specs.ReferenceChart.{refused, hitsAmong, ruleHolds, rowMask}
+use Rattle.window.specs.ReferenceChart.{charted, chartBy, chartStep, chartAnswers}
 use Rattle.monitor.specs.Calls.{monitorAnswers}
 use Rattle.monitor.specs.CallLaws.{one-call}
-use Rattle.monitor.specs.RowLaws.{bit-zero, empty-row-mask}
+use Rattle.window.specs.RowLaws.{bit-zero, empty-row-mask}
 use Rattle.monitor.specs.Agreement.{agreement}
 use Rattle.claims.specs.Exact.{isSignal}
 use Rattle.claims.specs.Centre.{OffCentre, onCentre, QuietOnCentre}

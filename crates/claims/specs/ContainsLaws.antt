@@ -10,7 +10,7 @@ use Rattle.runlength.specs.PercentBounds.{share-reached, reached-share}
 use Rattle.runlength.specs.Percentile.{least}
 use Rattle.runlength.specs.PercentileLaws.{least-cong, bracket-contains}
 use Rattle.table.specs.declared.TableFigures.{TableFigures}
-use Rattle.table.specs.TableChain.{stateCount}
+use Rattle.chain.specs.TableChain.{stateCount}
 use Rattle.table.specs.Table.{TableCall, rulesOf, chainOf, pmfOf}
 use Rattle.table.specs.AcceptedTable.{AcceptedTable}
 use Rattle.bracket.specs.Bracket.{reaches, passes, highTest, lowTest, percentilePlace}

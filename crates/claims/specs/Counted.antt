@@ -8,8 +8,8 @@ use Rattle.rules.specs.declared.Rule.{Rule}
 use Rattle.rules.specs.Bounds.{zoneCount}
 use Rattle.runlength.specs.Sum.{at}
 use Rattle.runlength.specs.Future.{EqualFuture}
-use Rattle.monitor.specs.ReferenceChart.{rowMask}
-use Rattle.monitor.specs.RowState.{stateOfRow}
+use Rattle.window.specs.ReferenceChart.{rowMask}
+use Rattle.window.specs.RowState.{stateOfRow}
 use Rattle.states.specs.Places.{Distinct}
 use Rattle.states.specs.Automata.{referenceAutomaton}
 

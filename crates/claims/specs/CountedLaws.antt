@@ -14,16 +14,16 @@ use Rattle.runlength.specs.Sum.{at}
 use Rattle.runlength.specs.Automaton.{quiet}
 use Rattle.runlength.specs.Future.{Alike, EqualFuture}
 use Rattle.runlength.specs.FutureLaws.{future-sym, future-trans, future-step}
-use Rattle.monitor.specs.State.{moveOf}
-use Rattle.monitor.specs.ReferenceChart.{rowMask}
-use Rattle.monitor.specs.RowState.{stateOfRow}
-use Rattle.monitor.specs.RowLaws.{move-of-row, empty-row-state}
+use Rattle.window.specs.State.{moveOf}
+use Rattle.window.specs.ReferenceChart.{rowMask}
+use Rattle.window.specs.RowState.{stateOfRow}
+use Rattle.window.specs.RowLaws.{move-of-row, empty-row-state}
 use Rattle.states.specs.States.{Met, start, more, states}
 use Rattle.states.specs.Automata.{automatonMove, stateAutomaton, referenceAutomaton}
 use Rattle.states.specs.AutomataLaws.{reference-future}
 use Rattle.states.specs.StatesLaws.{states-distinct, states-met, states-all}
-use Rattle.table.specs.TableChain.{exploredCount, stateCount}
-use Rattle.table.specs.FuturesLaws.{stateOfClass, class-met, classes-apart, classes-all}
+use Rattle.chain.specs.TableChain.{exploredCount, stateCount}
+use Rattle.chain.specs.FuturesLaws.{stateOfClass, class-met, classes-apart, classes-all}
 use Rattle.claims.specs.Counted.{QuietRow, empty, point, OfQuietRow, CountsStates, CountsFutures}
 
 module _ (rs : List Rule) (bounds : AllInBounds rs) where

@@ -13,12 +13,12 @@ use Rattle.rules.specs.Bounds.{zoneCount, maxNumber}
 use Rattle.rules.specs.Refusal.{badState, badCount}
 use Rattle.rules.specs.Check.{activeRules, checkOf}
 use Rattle.monitor.specs.declared.Monitor.{Monitor}
-use Rattle.monitor.specs.declared.Move.{Move}
+use Rattle.window.specs.declared.Move.{Move}
 use Rattle.monitor.specs.declared.Step.the-variants.{Refused}
-use Rattle.monitor.specs.State.{validState, stateMask, moveOf}
-use Rattle.monitor.specs.Givable.{GivableState}
-use Rattle.monitor.specs.ValidLaws.{state-exactly}
-use Rattle.monitor.specs.WindowLaws.{le-or-lt}
+use Rattle.window.specs.State.{validState, stateMask, moveOf}
+use Rattle.window.specs.Givable.{GivableState}
+use Rattle.window.specs.ValidLaws.{state-exactly}
+use Rattle.window.specs.WindowLaws.{le-or-lt}
 use Rattle.monitor.specs.Step.{stepAnswer, acceptedStep, stepOf}
 use Rattle.monitor.specs.StepLaws.{rules-accepted, step-bad-state, step-bad-count, step-move}
 use Rattle.table.specs.declared.TableAnswer.{TableAnswer}

@@ -17,13 +17,13 @@ use Rattle.monitor.specs.Calls.{monitorAnswers}
 use Rattle.monitor.specs.Agreement.{agreement}
 use Rattle.states.specs.States.{Met}
 use Rattle.states.specs.Automata.{stateAutomaton}
-use Rattle.table.specs.TableChain.{exploredCount}
+use Rattle.chain.specs.TableChain.{exploredCount}
 use Rattle.table.specs.declared.TableFigures.{TableFigures}
 use Rattle.table.specs.declared.TableAnswer.{TableAnswer}
-use Rattle.table.specs.ByState.{alikeStates, overStates, stateSignalled, stateUnits}
+use Rattle.chain.specs.ByState.{alikeStates, overStates, stateSignalled, stateUnits}
 use Rattle.table.specs.Table.{TableCall, rulesOf, tableOf, meanOf}
-use Rattle.table.specs.TableChainLaws.{chain-pmf, chain-survival}
-use Rattle.table.specs.FuturesLaws.{alike-exactly}
+use Rattle.chain.specs.TableChainLaws.{chain-pmf, chain-survival}
+use Rattle.chain.specs.FuturesLaws.{alike-exactly}
 use Rattle.table.specs.AcceptedTable.{AcceptedTable}
 use Rattle.table.specs.AcceptedTableLaws.{accepted-table}
 use Rattle.claims.specs.Named.{EachAnswered}

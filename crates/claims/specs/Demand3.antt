@@ -21,7 +21,7 @@ use Rattle.runlength.specs.SequenceLaws.{sequences-cong}
 use Rattle.runlength.specs.Automaton.{product}
 use Rattle.runlength.specs.PercentileLaws.{never-percentile}
 use Rattle.monitor.specs.Step.{freshMonitor}
-use Rattle.monitor.specs.ReferenceChart.{chartAnswers}
+use Rattle.window.specs.ReferenceChart.{chartAnswers}
 use Rattle.monitor.specs.Calls.{monitorAnswers, refusalNumber, Said, EachAnswer}
 use Rattle.monitor.specs.Agreement.{agreement, no-call-gets-5, no-refused-call}
 use Rattle.table.specs.declared.TableFigures.{TableFigures}

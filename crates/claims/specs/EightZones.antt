@@ -15,7 +15,7 @@ use Rattle.runlength.specs.Chain.{Chain, pmf, survival, restrictedMean}
 use Rattle.monitor.specs.Zone.{zoneC0}
 use Rattle.table.specs.declared.TableFigures.{TableFigures}
 use Rattle.table.specs.declared.TableAnswer.{TableAnswer}
-use Rattle.table.specs.TableChain.{tableAutomaton, tableChain}
+use Rattle.chain.specs.TableChain.{tableAutomaton, tableChain}
 use Rattle.table.specs.Table.{TableCall, rulesOf, tableOf, meanOf}
 use Rattle.table.specs.AcceptedTable.{AcceptedTable}
 use Rattle.table.specs.AcceptedTableLaws.{accepted-table}

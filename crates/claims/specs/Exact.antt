@@ -10,7 +10,7 @@ use Rattle.runlength.specs.Sum.{only, sumSequences, at}
 use Rattle.runlength.specs.Automaton.{product}
 use Rattle.runlength.specs.Scale.{weightTotal, percentsPerOne}
 use Rattle.monitor.specs.Step.{freshMonitor}
-use Rattle.monitor.specs.ReferenceChart.{Answer, refused, quiet, signal, rowMask, chartBy}
+use Rattle.window.specs.ReferenceChart.{Answer, refused, quiet, signal, rowMask, chartBy}
 use Rattle.monitor.specs.Calls.{monitorAnswers}
 
 -- The plain chart, here refusing none, from a row: each zone is added to the row; then quiet with the row's length, or signal with its

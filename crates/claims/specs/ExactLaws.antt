@@ -11,10 +11,10 @@ use Rattle.runlength.specs.Sum.{only, at}
 use Rattle.runlength.specs.SequenceLaws.{sequences-cong-all}
 use Rattle.runlength.specs.Automaton.{product, signals, runLength, exactCdf, exactRestrictedMean}
 use Rattle.runlength.specs.FutureLaws.{future-cdf, future-mean}
-use Rattle.monitor.specs.ReferenceChart.{rowMask}
+use Rattle.window.specs.ReferenceChart.{rowMask}
 use Rattle.states.specs.Automata.{referenceAutomaton}
-use Rattle.table.specs.TableChain.{exploredCount, tableAutomaton}
-use Rattle.table.specs.TableChainLaws.{chain-future}
+use Rattle.chain.specs.TableChain.{exploredCount, tableAutomaton}
+use Rattle.chain.specs.TableChainLaws.{chain-future}
 use Rattle.claims.specs.Exact.{freeAnswers, saysSignal, firstSignal, exactSum, exactMean}
 
 module _ (rs : List Rule) where

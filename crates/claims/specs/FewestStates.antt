@@ -13,10 +13,10 @@ use Rattle.runlength.specs.Fewest.{HoldsStates}
 use Rattle.states.specs.Automata.{referenceAutomaton}
 use Rattle.table.specs.declared.TableFigures.{TableFigures}
 use Rattle.table.specs.declared.TableAnswer.{TableAnswer}
-use Rattle.table.specs.TableChain.{tableAutomaton}
+use Rattle.chain.specs.TableChain.{tableAutomaton}
 use Rattle.table.specs.Table.{TableCall, rulesOf, tableOf}
-use Rattle.table.specs.TableChainLaws.{chain-future, chain-holds}
-use Rattle.table.specs.FuturesLaws.{chain-fewest}
+use Rattle.chain.specs.TableChainLaws.{chain-future, chain-holds}
+use Rattle.chain.specs.FuturesLaws.{chain-fewest}
 use Rattle.table.specs.AcceptedTable.{AcceptedTable}
 use Rattle.table.specs.AcceptedTableLaws.{accepted-table}
 

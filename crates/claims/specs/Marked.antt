@@ -15,8 +15,8 @@ use Rattle.runlength.specs.Percentile.{least}
 use Rattle.monitor.specs.declared.zone.ZoneAnswer.{ZoneAnswer}
 use Rattle.monitor.specs.declared.zone.ZoneAnswer.the-variants.{Zone}
 use Rattle.monitor.specs.Zone.{zoneOf}
-use Rattle.monitor.specs.Window.{hitsUpTo, live}
-use Rattle.monitor.specs.State.{holding, nextState, moveOf}
+use Rattle.window.specs.Window.{hitsUpTo, live}
+use Rattle.window.specs.State.{holding, nextState, moveOf}
 use Rattle.states.specs.States.{placeOf, withState, enter, busy, due, next, turns, explored, states, moves}
 use Rattle.states.specs.Automata.{stateAutomaton}
 use Rattle.runlength.specs.Lowest.{lowest}
@@ -26,7 +26,7 @@ use Rattle.merge.specs.Merge.{mergedCount, mergedMoves}
 use Rattle.merge.specs.Rounds.{agreeing, nextLeader}
 use Rattle.merge.specs.NumberingLaws.{rounds, count-rounds}
 use Rattle.table.specs.declared.TableAnswer.{TableAnswer}
-use Rattle.table.specs.TableChain.{exploredCount, stateCount, chainMoves, tableAutomaton}
+use Rattle.chain.specs.TableChain.{exploredCount, stateCount, chainMoves, tableAutomaton}
 use Rattle.table.specs.Table.{chartCheck, tableCheck, TableResult, tableCall, tableOf}
 use Rattle.bracket.specs.declared.BracketAnswer.{BracketAnswer}
 use Rattle.bracket.specs.declared.BracketAnswer.the-variants.{Accepted}

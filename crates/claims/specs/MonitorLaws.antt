@@ -11,7 +11,7 @@ use Rattle.rules.specs.declared.Checked.the-variants.{Accepted}
 use Rattle.rules.specs.Bounds.{zoneCount, maxNumber}
 use Rattle.rules.specs.Check.{activeRules, checkOf}
 use Rattle.monitor.specs.Step.{freshMonitor}
-use Rattle.monitor.specs.ReferenceChart.{rowMask, chartBy, chartStep, chartAnswers}
+use Rattle.window.specs.ReferenceChart.{rowMask, chartBy, chartStep, chartAnswers}
 use Rattle.monitor.specs.Calls.{monitorAnswers, Said, EachAnswer}
 use Rattle.runlength.specs.Sequence.{AllBelow}
 use Rattle.monitor.specs.Agreement.{agreement, no-refused-call}

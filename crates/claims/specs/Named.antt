@@ -7,7 +7,7 @@ use lib.ListN.{length, getD}
 use Rattle.rules.specs.declared.Rule.{Rule}
 use Rattle.rules.specs.Check.{noRule}
 use Rattle.rules.specs.Mask.{bit}
-use Rattle.monitor.specs.ReferenceChart.{Answer, refused, quiet, signal, ruleHolds}
+use Rattle.window.specs.ReferenceChart.{Answer, refused, quiet, signal, ruleHolds}
 
 -- the zones of the accepted points since the chart was cleared, the newest first: a refused call leaves them, a signal empties them
 abbrev pub pointsAfter : List ℕ → ℕ → Answer → List ℕ

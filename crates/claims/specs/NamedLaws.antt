@@ -11,7 +11,7 @@ use Rattle.rules.specs.declared.Rule.{Rule}
 use Rattle.rules.specs.Bounds.{zoneCount, maxNumber}
 use Rattle.rules.specs.Check.{noRule}
 use Rattle.rules.specs.Mask.{bit, maskOf}
-use Rattle.monitor.specs.ReferenceChart.{Answer, refused, quiet, signal, ruleHolds, rowMask, chartStep, chartAnswers}
+use Rattle.window.specs.ReferenceChart.{Answer, refused, quiet, signal, ruleHolds, rowMask, chartStep, chartAnswers}
 use Rattle.monitor.specs.Agreement.{mask-names-rules, mask-digit}
 use Rattle.claims.specs.Named.{pointsAfter, Names, NoneHolds, SomeHolds, Answered, EachAnswered}
 

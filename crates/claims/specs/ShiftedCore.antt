@@ -19,7 +19,7 @@ use Rattle.rules.specs.NumbersLaws.{on-both, refused-by, list-number}
 use Rattle.rules.specs.Weights.{weightList}
 use Rattle.runlength.specs.Scale.{minHorizon, maxHorizon, weightTotal}
 use Rattle.runlength.specs.Sum.{at, sum}
-use Rattle.table.specs.TableChain.{exploredCount}
+use Rattle.chain.specs.TableChain.{exploredCount}
 use Rattle.table.specs.Table.{TableCall, chartCheck, tableCheck}
 use Rattle.shift.specs.declared.ShiftAnswer.the-variants.{Accepted}
 use Rattle.shift.specs.Shift.{shiftOf}
@@ -27,7 +27,7 @@ use Rattle.shift.specs.ShiftLaws.{weights-sum}
 
 -- the table's numbers but for 8
 abbrev others : List ℕ
-others = shortList .number ∷ badHorizon .number ∷ tooManyStates .number ∷ ruleNumbers
+others = shortList .number ∷ badHorizon .number ∷ tooManyStates 0 .number ∷ ruleNumbers
 
 not-eight : {n : ℕ} → OneOf others n → n ≡ badWeights .number → ⊥
 not-eight (here e) q = omega arith
@@ -42,7 +42,7 @@ module _ (s : ℤ) (w : ZoneWeights) (ok : shiftOf s ≡ Accepted w) where
   pub weights-pass : (l : RuleList) (h : ℕ) → chartCheck l (weightList w) h
       ≡ orElse (checkOf l)
       (orElse (unless (within minHorizon maxHorizon h) badHorizon)
-      (unless (leb (exploredCount (activeRules l)) maxStates) tooManyStates))
+      (unless (leb (exploredCount (activeRules l)) maxStates) (tooManyStates 0)))
   unfolding chartCheck
   weights-pass l h = rw (eq-eqb (sum zoneCount (at (weightList w))) weightTotal (weights-sum s w ok))
 
@@ -52,7 +52,7 @@ module _ (s : ℤ) (w : ZoneWeights) (ok : shiftOf s ≡ Accepted w) where
       let count = leb (exploredCount (activeRules l)) maxStates in
       on-both _ (checkOf l) _ x (λ q. there (there (there (list-number l x q))))
       (on-both _ (unless horizon badHorizon) _ x (λ q. there (here (refused-by horizon badHorizon x q)))
-      (λ q. there (there (here (refused-by count tooManyStates x q)))))
+      (λ q. there (there (here (refused-by count (tooManyStates 0) x q)))))
       (rw (weights-pass l h) at e)
 
   -- So no chart, and no call of the table, with them is refused by 8.

@@ -15,8 +15,8 @@ use Rattle.monitor.specs.Zone.{zoneC0}
 use Rattle.states.specs.States.{Met, start, more, states, moves}
 use Rattle.states.specs.Places.{At}
 use Rattle.states.specs.StatesLaws.{states-some, states-first, states-distinct, states-met, explored-simulation}
-use Rattle.table.specs.TableChain.{exploredCount, stateCount, chainMoves, tableAutomaton}
-use Rattle.table.specs.TableChainLaws.{count-some, count-explored}
+use Rattle.chain.specs.TableChain.{exploredCount, stateCount, chainMoves, tableAutomaton}
+use Rattle.chain.specs.TableChainLaws.{count-some, count-explored}
 use Rattle.claims.specs.Centre.{withoutCentre}
 use Rattle.claims.specs.InsideLaws.{Placed, Inside}
 

@@ -20,11 +20,11 @@ use Rattle.rules.specs.Refusal.{badState, badZone, badCount}
 use Rattle.monitor.specs.declared.Monitor.{Monitor}
 use Rattle.monitor.specs.Step.{freshMonitor}
 use Rattle.monitor.specs.StepLaws.{rules-accepted}
-use Rattle.monitor.specs.ReferenceChart.{Answer, refused, quiet, signal, ruleHolds, rowMask, charted, chartStep, chartAnswers}
+use Rattle.window.specs.ReferenceChart.{Answer, refused, quiet, signal, ruleHolds, rowMask, charted, chartStep, chartAnswers}
 use Rattle.monitor.specs.Calls.{monitorAnswers, refusalNumber, Said, EachAnswer}
 use Rattle.runlength.specs.Sequence.{AllBelow}
 use Rattle.monitor.specs.CallLaws.{monitorOfRow, fresh-of-row, one-call, chart-quiet, chart-signal}
-use Rattle.monitor.specs.RowLaws.{empty-row-mask}
+use Rattle.window.specs.RowLaws.{empty-row-mask}
 
 -- ---- agreement
 

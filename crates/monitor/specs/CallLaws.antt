@@ -15,14 +15,14 @@ use Rattle.rules.specs.InBounds.{AllInBounds}
 use Rattle.rules.specs.Refusal.{badZone, badCount}
 use Rattle.monitor.specs.declared.Monitor.{Monitor}
 use Rattle.monitor.specs.declared.Step.{Step}
-use Rattle.monitor.specs.WindowLaws.{le-or-lt}
-use Rattle.monitor.specs.State.{validState}
+use Rattle.window.specs.WindowLaws.{le-or-lt}
+use Rattle.window.specs.State.{validState}
 use Rattle.monitor.specs.Step.{monitorAt, freshMonitor, acceptedStep}
 use Rattle.monitor.specs.StepLaws.{step-bad-zone, step-bad-count, step-signal, step-quiet}
-use Rattle.monitor.specs.ReferenceChart.{refused, quiet, signal, rowMask, Charted, charted, chartStep}
+use Rattle.window.specs.ReferenceChart.{refused, quiet, signal, rowMask, Charted, charted, chartStep}
 use Rattle.monitor.specs.Calls.{answerOf, monitorAfter}
-use Rattle.monitor.specs.RowState.{stateOfRow}
-use Rattle.monitor.specs.RowLaws.{valid-of-row, mask-of-row, next-of-row, empty-row-state, empty-row-mask}
+use Rattle.window.specs.RowState.{stateOfRow}
+use Rattle.window.specs.RowLaws.{valid-of-row, mask-of-row, next-of-row, empty-row-state, empty-row-mask}
 
 -- ---- the chart's four cases
 

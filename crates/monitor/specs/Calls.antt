@@ -6,7 +6,7 @@ use Rattle.monitor.specs.declared.Monitor.{Monitor}
 use Rattle.monitor.specs.declared.Step.{Step}
 use Rattle.monitor.specs.declared.Step.the-variants.{Refused, Quiet, Signal}
 use Rattle.monitor.specs.Step.{stepOf}
-use Rattle.monitor.specs.ReferenceChart.{Answer, refused, quiet, signal}
+use Rattle.window.specs.ReferenceChart.{Answer, refused, quiet, signal}
 
 -- what is compared of a step: the refusal's number; or quiet or signal, with the count and the mask
 abbrev pub answerOf : Step → Answer

@@ -17,7 +17,7 @@ use Rattle.monitor.specs.declared.Step.the-variants.{Refused}
 use Rattle.monitor.specs.declared.Taken.{Taken}
 use Rattle.monitor.specs.declared.zone.ZoneAnswer.{ZoneAnswer}
 use Rattle.monitor.specs.declared.zone.ZoneAnswer.the-variants.{Zone}
-use Rattle.monitor.specs.State.{validState}
+use Rattle.window.specs.State.{validState}
 use Rattle.monitor.specs.Step.{stepOf}
 use Rattle.monitor.specs.Take.{takenOf}
 use Rattle.monitor.specs.Zone.{minSigma, maxSigma, zoneAt, zoneOf}

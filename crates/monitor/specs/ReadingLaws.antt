@@ -16,7 +16,7 @@ use Rattle.rules.specs.NumbersLaws.{not-both}
 use Rattle.rules.specs.Refusal.{badSigma, badState, badCount}
 use Rattle.monitor.specs.declared.Monitor.{Monitor}
 use Rattle.monitor.specs.declared.Step.the-variants.{Refused}
-use Rattle.monitor.specs.State.{validState}
+use Rattle.window.specs.State.{validState}
 use Rattle.monitor.specs.Step.{acceptedStep}
 use Rattle.monitor.specs.StepLaws.{rules-accepted, step-bad-state, step-bad-count, stepTaken, step-take}
 use Rattle.monitor.specs.TakeLaws.{taken-valid}

@@ -10,9 +10,9 @@ use Rattle.rules.specs.declared.Checked.the-variants.{Accepted}
 use Rattle.rules.specs.Bounds.{zoneCount, maxNumber}
 use Rattle.rules.specs.Refusal.{badState, badZone, badCount}
 use Rattle.rules.specs.Check.{checkOf, activeRules}
-use Rattle.monitor.specs.State.{emptyState, validState, stateMask, moveOf}
-use Rattle.monitor.specs.declared.Move.{Move}
-use Rattle.monitor.specs.declared.Move.the-variants.{Quiet, Signal}
+use Rattle.window.specs.State.{emptyState, validState, stateMask, moveOf}
+use Rattle.window.specs.declared.Move.{Move}
+use Rattle.window.specs.declared.Move.the-variants.{Quiet, Signal}
 use Rattle.monitor.specs.declared.Monitor.{Monitor}
 use Rattle.monitor.specs.declared.Step.{Step}
 use Rattle.monitor.specs.declared.Step.the-variants.{Refused}

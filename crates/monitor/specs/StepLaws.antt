@@ -7,7 +7,7 @@ use Prim.Native.Nat.{ℕ, _+_, _≤_, _<_}
 use native.Mathlib.Nat.{eq-zero-or-pos}
 use native.Mathlib.Omega.{arith}
 use lib.Dec.{eqb}
-use borrow.Author.Tests.{lt-ltb, le-ltb, eq-eqb, ne-eqb}
+use borrow.Author.Tests.{lt-ltb, le-ltb, ne-eqb}
 use Rattle.rules.specs.declared.Rule.{Rule}
 use Rattle.rules.specs.declared.RuleList.{RuleList}
 use Rattle.rules.specs.declared.Checked.the-variants.{Accepted}
@@ -15,24 +15,14 @@ use Rattle.rules.specs.Bounds.{zoneCount, maxNumber}
 use Rattle.rules.specs.Check.{activeRules, checkOf}
 use Rattle.rules.specs.Refusal.{badState, badZone, badCount}
 use Rattle.monitor.specs.declared.Monitor.{Monitor}
-use Rattle.monitor.specs.declared.Move.the-variants.{Quiet, Signal}
+use Rattle.window.specs.declared.Move.the-variants.{Quiet, Signal}
 use Rattle.monitor.specs.declared.Step.{Step}
 use Rattle.monitor.specs.declared.Step.the-variants.{Refused}
-use Rattle.monitor.specs.State.{validState, stateMask, nextState, moveOf}
+use Rattle.window.specs.State.{validState, stateMask, nextState, moveOf}
 use Rattle.monitor.specs.Step.{monitorAt, freshMonitor, stepAnswer, acceptedStep, stepOf}
 use Rattle.monitor.specs.Take.{takenOf}
 use Rattle.monitor.specs.declared.Taken.{Taken}
-
--- ---- the move
-
-module _ (rs : List Rule) (s z : ℕ) where
-  pub move-signal : (stateMask rs s z ≡ 0 → ⊥) → moveOf rs s z ≡ Signal
-  unfolding moveOf
-  move-signal e = rw (ne-eqb (stateMask rs s z) 0 e)
-
-  pub move-quiet : stateMask rs s z ≡ 0 → moveOf rs s z ≡ Quiet (nextState rs s z)
-  unfolding moveOf
-  move-quiet e = rw (eq-eqb (stateMask rs s z) 0 e)
+use Rattle.window.specs.MoveLaws.{move-quiet, move-signal}
 
 -- ---- the step
 

@@ -6,9 +6,9 @@ use lib.Dec.{eqb}
 use Rattle.rules.specs.declared.Rule.{Rule}
 use Rattle.monitor.specs.declared.Monitor.{Monitor}
 use Rattle.monitor.specs.declared.Taken.{Taken}
-use Rattle.monitor.specs.State.{stateMask, nextState}
+use Rattle.window.specs.State.{stateMask, nextState}
 use Rattle.monitor.specs.Step.{monitorAt, freshMonitor}
-use Rattle.monitor.specs.ReferenceChart.{Answer, quiet, signal}
+use Rattle.window.specs.ReferenceChart.{Answer, quiet, signal}
 
 -- quiet, with mask 0 and the next state; or signal, with the mask and a fresh monitor
 abbrev pub takenBy : ℕ → ℕ → ℕ → Taken

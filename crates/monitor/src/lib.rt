@@ -10,14 +10,22 @@ ghost use Prim.Native.Nat.{_≤_, _<_};
 ghost use Rattle.rules.specs.Bounds.{zoneCount, maxRules, maxNumber};
 ghost use Rattle.rules.specs.Check.{activeRules};
 ghost use Rattle.rules.specs.InBounds.{AllInBounds};
-ghost use Rattle.monitor.specs.State.{validState, moveOf};
-ghost use Rattle.monitor.specs.Settled.{CanBeGiven};
+ghost use Rattle.window.specs.State.{validState};
 ghost use Rattle.monitor.specs.Step.{acceptedStep, freshMonitor, stepOf};
 ghost use Rattle.monitor.specs.Take.{takenOf};
 
-mod state;
-mod window;
+mod chart;
 pub mod zone;
+
+pub use chart::Chart;
+pub use zone::ZONE_A1;
+pub use zone::ZONE_A2;
+pub use zone::ZONE_B1;
+pub use zone::ZONE_B2;
+pub use zone::ZONE_C0;
+pub use zone::ZONE_C1;
+pub use zone::ZONE_C2;
+pub use zone::ZONE_S;
 
 // The state (document 01's standing): the window of rule i is digit i in base 256, and in it the hit of age a is digit a - 1 in base 2.
 // The count: the points since the last reset.
@@ -46,26 +54,6 @@ pub struct Taken {
     pub next: Monitor,
 }
 
-// What a point does to a state, whatever the count.
-pub enum Move {
-    Quiet(u64),
-    Signal,
-}
-
-// The move by state and zone, for accepted rules and a state that can be given. For the crates of this repository.
-pub fn move_of(list: RuleList, state: u64, zone: u32) -> Move
-    requires { ⌜ (list .len ≤ maxRules) × AllInBounds (activeRules list) × (zone < zoneCount) ⌝ }
-    requires given { ⌜ CanBeGiven (activeRules list) state ⌝ }
-    ensures { λ r. ⌜ r ≡ moveOf (activeRules list) state zone ⌝ }
-{
-    let moved = state::moved(list, state, zone);
-    if moved.mask == 0 {
-        Move::Quiet(moved.next)
-    } else {
-        Move::Signal
-    }
-}
-
 impl Monitor {
     // The empty state and count 0.
     pub fn fresh() -> Monitor
@@ -79,7 +67,7 @@ impl Monitor {
         requires { ⌜ (list .len ≤ maxRules) × AllInBounds (activeRules list) ⌝ }
         ensures { λ t. ⌜ t ≡ validState (self .count) (activeRules list) (self .state) ⌝ }
     {
-        state::valid_state(list, self.count, self.state)
+        window::valid_state(list, self.count, self.state)
     }
 
     // One point, for rules that are accepted, a zone that exists, a state that can be given and a count with room. For
@@ -90,7 +78,7 @@ impl Monitor {
         ensures { λ r. ⌜ r ≡ takenOf (activeRules list) self zone ⌝ }
     {
         let points = self.count;
-        let moved = state::moved(list, self.state, zone);
+        let moved = window::moved(list, self.state, zone);
         let mask = moved.mask;
         if mask != 0 {
             return Taken {

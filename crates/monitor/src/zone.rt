@@ -1,4 +1,5 @@
 // The zone of a reading.
+use crate::chart::Chart;
 use rules::Refusal;
 ghost use mathlib.Core.Path.{_≡_};
 ghost use Prim.Native.Nat.{_+_, _≤_, _<_};
@@ -11,35 +12,28 @@ pub enum ZoneAnswer {
     Refused(Refusal),
 }
 
-impl ZoneAnswer {
-    // The bounds of sigma (document 01's step d).
-    pub const MIN_SIGMA: u32 = 1;
+// The zones by number.
+pub const ZONE_S: u32 = 0;
 
-    pub const MAX_SIGMA: u32 = 65535;
+pub const ZONE_A1: u32 = 1;
 
-    // The zones by number.
-    pub const S: u32 = 0;
+pub const ZONE_B1: u32 = 2;
 
-    pub const A1: u32 = 1;
+pub const ZONE_C1: u32 = 3;
 
-    pub const B1: u32 = 2;
+pub const ZONE_C2: u32 = 4;
 
-    pub const C1: u32 = 3;
+pub const ZONE_B2: u32 = 5;
 
-    pub const C2: u32 = 4;
+pub const ZONE_A2: u32 = 6;
 
-    pub const B2: u32 = 5;
-
-    pub const A2: u32 = 6;
-
-    pub const C0: u32 = 7;
-}
+pub const ZONE_C0: u32 = 7;
 
 // Whether sigma is within its bounds.
 pub fn sigma_fits(sigma: u32) -> bool
     ensures { λ t. ⌜ t ≡ within minSigma maxSigma sigma ⌝ }
 {
-    rules::within(ZoneAnswer::MIN_SIGMA, ZoneAnswer::MAX_SIGMA, sigma)
+    rules::within(Chart::MIN_SIGMA, Chart::MAX_SIGMA, sigma)
 }
 
 // A signed number as an unsigned one, 2^31 higher, so that differences stay unsigned.
@@ -64,7 +58,7 @@ fn band_of(sigma: u32, distance: u64, one: u32, two: u32, three: u32) -> u32
     if distance <= 3 * width {
         return three;
     }
-    ZoneAnswer::S
+    ZONE_S
 }
 
 // The zone of a reading where sigma is within its bounds. For the crates of this repository.
@@ -75,24 +69,12 @@ pub fn zone_at(reading: i32, centre: i32, sigma: u32) -> u32
     let at = biased(reading);
     let middle = biased(centre);
     if at < middle {
-        return band_of(
-            sigma,
-            middle - at,
-            ZoneAnswer::C2,
-            ZoneAnswer::B2,
-            ZoneAnswer::A2,
-        );
+        return band_of(sigma, middle - at, ZONE_C2, ZONE_B2, ZONE_A2);
     }
     if middle < at {
-        return band_of(
-            sigma,
-            at - middle,
-            ZoneAnswer::C1,
-            ZoneAnswer::B1,
-            ZoneAnswer::A1,
-        );
+        return band_of(sigma, at - middle, ZONE_C1, ZONE_B1, ZONE_A1);
     }
-    ZoneAnswer::C0
+    ZONE_C0
 }
 
 // The zone of a reading on a chart with this centre and sigma: refused by 1 where sigma is out of bounds.

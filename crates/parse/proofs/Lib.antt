@@ -1,4 +1,3 @@
-mod RuleTurns
 mod PointTurns
 mod PartCases
 mod TableCases

@@ -12,13 +12,13 @@ use Rattle.text.specs.declared.lines.Line.the-variants.{Chart}
 use Rattle.text.specs.Line.{lineAt}
 use Rattle.text.specs.Kind.{chart, kindOf, NotOf}
 use Rattle.text.specs.KindLaws.{other-kind, chart-passed}
-use Rattle.parse.specs.declared.rule_lines.RulesRead.{RulesRead}
+use Rattle.rule_lines.specs.declared.rule_lines.RulesRead.{RulesRead}
 use Rattle.parse.specs.declared.point_lines.PointsRead.{PointsRead}
 use Rattle.parse.specs.declared.monitors.MonitorText.{MonitorText}
 use Rattle.rules.specs.Refusal.{notRefused, badLine, tooLong, badNode}
 use Rattle.text.specs.Size.{maxText, minLine}
-use Rattle.parse.specs.Rules.{rulesAt, afterRules, rulesRead}
-use Rattle.parse.specs.RulesLaws.{rules-fit}
+use Rattle.rule_lines.specs.Rules.{rulesAt, afterRules, rulesRead}
+use Rattle.rule_lines.specs.RulesLaws.{rules-fit}
 use Rattle.parse.specs.Readings.{pointsAt, afterPoints, benchPoints, pointsRead}
 use Rattle.parse.specs.ReadingsLaws.{points-fit, no-points, bench-most}
 use Rattle.parse.proofs.PartCases.{bad-rule}

@@ -10,10 +10,10 @@ use Rattle.text.specs.Line.{lineAt, ruleLineAt}
 use Rattle.text.specs.Format.{nextOf}
 use Rattle.text.specs.OnLine.{onRuleLine}
 use Rattle.text.specs.RuleLineLaws.{rule-outcome}
-use Rattle.parse.specs.declared.rule_lines.RulesRead.{RulesRead}
+use Rattle.rule_lines.specs.declared.rule_lines.RulesRead.{RulesRead}
 use Rattle.parse.specs.declared.parts.Parts.{Parts}
 use Rattle.rules.specs.Refusal.{notRefused, badLine}
-use Rattle.parse.specs.Rules.{afterRules, rulesRead}
+use Rattle.rule_lines.specs.Rules.{afterRules, rulesRead}
 use Rattle.parse.specs.Readings.{pointsRead}
 use Rattle.parse.specs.Parts.{partsOf}
 

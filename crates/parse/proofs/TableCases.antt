@@ -13,11 +13,11 @@ use Rattle.rules.specs.Weights.{weightList}
 use Rattle.text.specs.Line.{lineAt}
 use Rattle.text.specs.Kind.{weights, horizon, NotOf}
 use Rattle.text.specs.KindLaws.{weights-passed, horizon-passed}
-use Rattle.parse.specs.declared.rule_lines.RulesRead.{RulesRead}
+use Rattle.rule_lines.specs.declared.rule_lines.RulesRead.{RulesRead}
 use Rattle.parse.specs.declared.tables.TableText.{TableText}
 use Rattle.text.specs.Size.{maxText, minLine}
-use Rattle.parse.specs.Rules.{rulesAt, rulesRead}
-use Rattle.parse.specs.RulesLaws.{rules-fit}
+use Rattle.rule_lines.specs.Rules.{rulesAt, rulesRead}
+use Rattle.rule_lines.specs.RulesLaws.{rules-fit}
 use Rattle.parse.proofs.PartCases.{bad-rule}
 use Rattle.parse.specs.TableText.{refusedTable, readTable, tableEnd, tableText}
 

@@ -1,6 +1,3 @@
-pub mod ElseLaws
-pub mod Rules
-pub mod RulesLaws
 pub mod TableText
 pub mod Readings
 pub mod ReadingsLaws

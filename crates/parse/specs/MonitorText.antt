@@ -12,7 +12,7 @@ use Rattle.text.specs.OnLine.{onChart}
 use Rattle.parse.specs.declared.monitors.MonitorText.{MonitorText}
 use Rattle.rules.specs.Refusal.{notRefused, badLine, tooLong, badNode}
 use Rattle.text.specs.Size.{maxText}
-use Rattle.parse.specs.Rules.{rulesAt, afterRules, ruleListOf}
+use Rattle.rule_lines.specs.Rules.{rulesAt, afterRules, ruleListOf}
 use Rattle.parse.specs.Readings.{NodeReading, pointsAt, afterPoints, benchPoints}
 
 -- a refusal comes with zeros and no rules

@@ -6,10 +6,10 @@ use lib.Dec.{ltb}
 use Rattle.text.specs.declared.lines.Line.{Line}
 use Rattle.text.specs.Line.{lineAt}
 use Rattle.text.specs.Format.{nextOf}
-use Rattle.parse.specs.declared.rule_lines.RulesRead.{RulesRead}
+use Rattle.rule_lines.specs.declared.rule_lines.RulesRead.{RulesRead}
 use Rattle.parse.specs.declared.point_lines.PointsRead.{PointsRead}
 use Rattle.parse.specs.declared.parts.Parts.{Parts}
-use Rattle.parse.specs.Rules.{rulesRead}
+use Rattle.rule_lines.specs.Rules.{rulesRead}
 use Rattle.parse.specs.Readings.{nodeCount, pointsRead}
 
 -- of `count` points `good` come before the first whose node is none of the bench's: how many do with one of this node more

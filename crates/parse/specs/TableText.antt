@@ -14,7 +14,7 @@ use Rattle.text.specs.OnLine.{onWeights, onHorizon}
 use Rattle.parse.specs.declared.tables.TableText.{TableText}
 use Rattle.rules.specs.Refusal.{notRefused, badLine, tooLong}
 use Rattle.text.specs.Size.{maxText}
-use Rattle.parse.specs.Rules.{rulesAt, afterRules, ruleListOf}
+use Rattle.rule_lines.specs.Rules.{rulesAt, afterRules, ruleListOf}
 
 -- a refusal comes with no weights, no rules and no horizon
 unfoldable pub refusedTable : Refusal → TableText

@@ -2,7 +2,6 @@
 mod monitors;
 mod parts;
 mod point_lines;
-mod rule_lines;
 mod shifts;
 mod tables;
 

@@ -1,6 +1,6 @@
 // The monitor program's text: a chart line, rule lines, and point lines to the end.
 use crate::parts::read_parts;
-use crate::rule_lines::no_rules;
+use rule_lines::no_rules;
 use rules::Refusal;
 use rules::RuleList;
 use text::Line;

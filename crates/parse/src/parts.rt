@@ -1,8 +1,8 @@
 // The parts of a text of any program, read by one reader.
 use crate::point_lines::PointsRead;
 use crate::point_lines::points;
-use crate::rule_lines::RulesRead;
-use crate::rule_lines::rules;
+use rule_lines::RulesRead;
+use rule_lines::rules;
 use text::Line;
 use text::Reader;
 use text::line;

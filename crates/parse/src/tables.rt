@@ -1,6 +1,6 @@
 // The table program's text: a weights line, rule lines, a horizon line, and nothing more.
 use crate::parts::read_parts;
-use crate::rule_lines::no_rules;
+use rule_lines::no_rules;
 use rules::Refusal;
 use rules::RuleList;
 use rules::ZONES;

@@ -45,9 +45,9 @@ badWeights = refusal 8 0
 abbrev pub badHorizon : Refusal
 badHorizon = refusal 9 0
 
--- more states than are taken
-abbrev pub tooManyStates : Refusal
-tooManyStates = refusal 10 0
+-- more states than are taken, with this place
+abbrev pub tooManyStates : ℕ → Refusal
+tooManyStates place = refusal 10 place
 
 -- a lent list that is shorter than the horizon
 abbrev pub shortList : Refusal

@@ -7,6 +7,7 @@ pub mod SequenceLaws
 pub mod Automaton
 pub mod TotalMass
 pub mod Chain
+pub mod CdfLaws
 pub mod Listed
 pub mod Flow
 pub mod FlowLaws

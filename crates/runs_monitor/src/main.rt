@@ -1,5 +1,4 @@
 // The monitor program: a text on standard input; on standard output a line for each of its points, and a total for each node.
-use report::ReportAnswer;
 use text::MAX_TEXT;
 
 // One byte more than the longest text is read, so that a longer one is told. Where a read fails nothing is printed.
@@ -11,7 +10,7 @@ fn main() {
         return;
     }
     let n = input.len;
-    let mut out = [0u8; ReportAnswer::MONITOR_SIZE];
-    let m = report::monitor_output(&text[..n], &mut out);
+    let mut out = [0u8; monitor_report::MONITOR_SIZE];
+    let m = monitor_report::monitor_output(&text[..n], &mut out);
     output::lines(&out[..m]);
 }

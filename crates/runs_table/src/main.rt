@@ -1,5 +1,4 @@
 // The table program: a text on standard input, its run-length table on standard output.
-use report::ReportAnswer;
 use text::MAX_TEXT;
 
 // One byte more than the longest text is read, so that a longer one is told. Where a read fails nothing is printed.
@@ -11,7 +10,7 @@ fn main() {
         return;
     }
     let n = input.len;
-    let mut out = [0u8; ReportAnswer::TABLE_SIZE];
-    let m = report::table_output(&text[..n], &mut out);
+    let mut out = [0u8; table_report::TABLE_SIZE];
+    let m = table_report::table_output(&text[..n], &mut out);
     output::lines(&out[..m]);
 }

@@ -1,5 +1,4 @@
 // The weights program: a shift on standard input, the weights line of a core that is so shifted on standard output.
-use report::ReportAnswer;
 use text::MAX_TEXT;
 
 // One byte more than the longest text is read, so that a longer one is told. Where a read fails nothing is printed.
@@ -11,7 +10,7 @@ fn main() {
         return;
     }
     let n = input.len;
-    let mut out = [0u8; ReportAnswer::WEIGHTS_SIZE];
-    let m = report::weights_output(&text[..n], &mut out);
+    let mut out = [0u8; weights_report::WEIGHTS_SIZE];
+    let m = weights_report::weights_output(&text[..n], &mut out);
     output::lines(&out[..m]);
 }

@@ -1,6 +1,5 @@
 // The bounds of rules, charts and texts.
-use monitor::zone::ZoneAnswer;
-use report::ReportAnswer;
+use monitor::Chart;
 use rules::RuleList;
 use shift::ShiftAnswer;
 
@@ -19,7 +18,7 @@ pub fn rules() {
 }
 
 pub fn charts() {
-    line(b"MAX_SIGMA,", ZoneAnswer::MAX_SIGMA as u64);
+    line(b"MAX_SIGMA,", Chart::MAX_SIGMA as u64);
     line(b"WEIGHT_TOTAL,", runlength::WEIGHT_TOTAL);
     line(b"UNITS_PER_ONE,", runlength::UNITS_PER_ONE);
     line(b"MAX_HORIZON,", runlength::MAX_HORIZON as u64);
@@ -28,9 +27,9 @@ pub fn charts() {
 
 pub fn texts() {
     line(b"MAX_TEXT,", text::MAX_TEXT as u64);
-    line(b"MAX_ROWS,", print::MAX_ROWS as u64);
+    line(b"MAX_ROWS,", table_lines::MAX_ROWS as u64);
     line(b"NODES,", parse::NODES as u64);
-    line(b"TABLE_SIZE,", ReportAnswer::TABLE_SIZE as u64);
-    line(b"MONITOR_SIZE,", ReportAnswer::MONITOR_SIZE as u64);
-    line(b"WEIGHTS_SIZE,", ReportAnswer::WEIGHTS_SIZE as u64);
+    line(b"TABLE_SIZE,", table_report::TABLE_SIZE as u64);
+    line(b"MONITOR_SIZE,", monitor_report::MONITOR_SIZE as u64);
+    line(b"WEIGHTS_SIZE,", weights_report::WEIGHTS_SIZE as u64);
 }

@@ -5,10 +5,10 @@ use mathlib.Core.List.{List, [], _∷_}
 use lib.Dec.{eqb}
 use Rattle.rules.specs.declared.Rule.{Rule}
 use Rattle.rules.specs.Bounds.{zoneCount}
-use Rattle.monitor.specs.declared.Move.{Move as MonitorMove}
-use Rattle.monitor.specs.declared.Move.the-variants.{Quiet, Signal}
-use Rattle.monitor.specs.State.{emptyState, moveOf}
-use Rattle.monitor.specs.ReferenceChart.{rowMask}
+use Rattle.window.specs.declared.Move.{Move as MonitorMove}
+use Rattle.window.specs.declared.Move.the-variants.{Quiet, Signal}
+use Rattle.window.specs.State.{emptyState, moveOf}
+use Rattle.window.specs.ReferenceChart.{rowMask}
 use Rattle.runlength.specs.Automaton.{Automaton, Move, quiet, signal}
 
 -- the monitor's move as an automaton's

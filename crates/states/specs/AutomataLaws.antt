@@ -11,14 +11,14 @@ use lib.ListN.{length}
 use Rattle.rules.specs.declared.Rule.{Rule}
 use Rattle.rules.specs.Bounds.{zoneCount, maxStates}
 use Rattle.rules.specs.InBounds.{AllInBounds}
-use Rattle.monitor.specs.declared.Move.the-variants.{Quiet, Signal}
-use Rattle.monitor.specs.State.{emptyState, stateMask, nextState}
-use Rattle.monitor.specs.Settled.{CanBeGiven}
-use Rattle.monitor.specs.StepLaws.{move-quiet, move-signal}
-use Rattle.monitor.specs.TakeLaws.{empty-given, quiet-given}
-use Rattle.monitor.specs.ReferenceChart.{rowMask}
-use Rattle.monitor.specs.RowState.{stateOfRow}
-use Rattle.monitor.specs.RowLaws.{move-of-row, empty-row-state}
+use Rattle.window.specs.declared.Move.the-variants.{Quiet, Signal}
+use Rattle.window.specs.State.{emptyState, stateMask, nextState}
+use Rattle.window.specs.Settled.{CanBeGiven}
+use Rattle.window.specs.MoveLaws.{move-quiet, move-signal}
+use Rattle.window.specs.GivenLaws.{empty-given, quiet-given}
+use Rattle.window.specs.ReferenceChart.{rowMask}
+use Rattle.window.specs.RowState.{stateOfRow}
+use Rattle.window.specs.RowLaws.{move-of-row, empty-row-state}
 use Rattle.runlength.specs.Automaton.{quiet, signal}
 use Rattle.runlength.specs.Listed.{listedAutomaton}
 use Rattle.runlength.specs.Future.{Alike, EqualFuture, Simulation}

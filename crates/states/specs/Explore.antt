@@ -7,7 +7,7 @@ use Rattle.rules.specs.declared.RuleList.{RuleList}
 use Rattle.rules.specs.Bounds.{zoneCount, maxRules, maxStates}
 use Rattle.rules.specs.Check.{activeRules}
 use Rattle.rules.specs.InBounds.{AllInBounds}
-use Rattle.monitor.specs.Settled.{CanBeGiven}
+use Rattle.window.specs.Settled.{CanBeGiven}
 use Rattle.runlength.specs.Automaton.{Automaton}
 use Rattle.states.specs.States.{worklist, next, states, moves}
 

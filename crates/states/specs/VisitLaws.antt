@@ -6,8 +6,8 @@ use lib.ListN.{getD, take, set}
 use Rattle.rules.specs.declared.RuleList.{RuleList}
 use Rattle.rules.specs.Bounds.{zoneCount, maxStates}
 use Rattle.rules.specs.Check.{activeRules}
-use Rattle.monitor.specs.declared.Move.the-variants.{Quiet, Signal}
-use Rattle.monitor.specs.State.{moveOf}
+use Rattle.window.specs.declared.Move.the-variants.{Quiet, Signal}
+use Rattle.window.specs.State.{moveOf}
 use Rattle.states.specs.States.{placeOf}
 use Rattle.states.specs.Automata.{automatonMove, stateAutomaton}
 use Rattle.states.specs.AutomataLaws.{met-given}

@@ -1,7 +1,7 @@
 // The states of a rule list: all that are met from the empty state with no signal, and the move of each by each zone.
-use monitor::Move;
 use rules::RuleList;
 use rules::ZONES;
+use window::Move;
 ghost use mathlib.Core.Path.{_≡_};
 ghost use Prim.Native.Nat.{_≤_};
 ghost use lib.ListN.{length, take};
@@ -32,7 +32,7 @@ fn visit(list: RuleList, found: &mut [u64], moves: &mut [u16], n: usize, k: usiz
 {
     let state = found[k / ZONES];
     let zone = (k % ZONES) as u32;
-    match monitor::move_of(list, state, zone) {
+    match window::move_of(list, state, zone) {
         Move::Signal => {
             moves[k] = RuleList::MAX_STATES as u16;
             n

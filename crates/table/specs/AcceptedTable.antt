@@ -12,7 +12,7 @@ use Rattle.runlength.specs.Scale.{minHorizon, maxHorizon, weightTotal, unitsPer
 use Rattle.runlength.specs.Sum.{at, sum, front}
 use Rattle.runlength.specs.Chain.{Proper, pmf, cdf, survival, restrictedMean, cdfOf}
 use Rattle.table.specs.declared.TableFigures.{TableFigures}
-use Rattle.table.specs.TableChain.{exploredCount, stateCount}
+use Rattle.chain.specs.TableChain.{exploredCount, stateCount}
 use Rattle.table.specs.Table.{TableCall, rulesOf, chainOf, tableOf, pmfOf, meanOf}
 
 -- the rules, the weights, the horizon and the states explored are in bounds

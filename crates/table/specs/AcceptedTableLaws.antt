@@ -23,7 +23,7 @@ use Rattle.table.specs.declared.TableAnswer.{TableAnswer}
 use Rattle.rules.specs.Check.{unless}
 use Rattle.table.specs.Table.{TableCall, rulesOf, chainOf, chartCheck, tableCheck, TableResult, figuresOf, filled, tableOf, pmfOf}
 use Rattle.table.specs.AcceptedTable.{AcceptedChart, AcceptedTable}
-use Rattle.table.specs.TableChainLaws.{count-some, count-explored, chain-proper}
+use Rattle.chain.specs.TableChainLaws.{count-some, count-explored, chain-proper}
 use Rattle.table.specs.ChartLaws.{passed, accepted-chart}
 
 -- ---- lists written from the front

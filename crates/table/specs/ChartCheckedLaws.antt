@@ -6,10 +6,11 @@ use Rattle.rules.specs.declared.RuleList.{RuleList}
 use Rattle.rules.specs.declared.refusal.Refusal.{Refusal}
 use Rattle.rules.specs.declared.Checked.the-variants as checked
 use Rattle.rules.specs.Check.{activeRules}
-use Rattle.table.specs.declared.chart.ChartAnswer.{ChartAnswer}
-use Rattle.table.specs.declared.chart.ChartAnswer.the-variants.{Accepted, Refused}
+use Rattle.chain.specs.declared.ChartAnswer.{ChartAnswer}
+use Rattle.chain.specs.declared.ChartAnswer.the-variants.{Accepted, Refused}
 use Rattle.table.specs.Table.{chartCheck}
-use Rattle.table.specs.ChartChecked.{HoldsMoves, ChartChecked}
+use Rattle.table.specs.ChartChecked.{ChartChecked}
+use Rattle.chain.specs.HeldMoves.{HoldsMoves}
 
 module _ (l : RuleList) (w : List ℕ) (h : ℕ) (m : List ℕ) {a : ChartAnswer} where
   pub refused-chart : {x : Refusal} → a ≡ Refused x → ChartChecked l w h m a → chartCheck l w h ≡ checked.Refused x

@@ -1,14 +1,11 @@
 -- The checks of a chart case by case, and what a chart that passes them has. Laws.
 use mathlib.Core.Path.{_≡_, refl, sym, ap, _∙_}
 use mathlib.Core.Bool.{Bool, true, false}
-use mathlib.Core.List.{List, _++_}
-use Prim.Native.Nat.{ℕ, _*_, _≤_, _<_}
+use mathlib.Core.List.{List}
+use Prim.Native.Nat.{ℕ, _≤_, _<_}
 use native.Mathlib.Omega.{arith}
 use lib.Dec.{eqb}
-use lib.ListN.{length, drop, length-append, List·getD-append}
-use lib.Seq.{getD-take}
 use borrow.Author.Tests.{le-leb, lt-leb, leb-true, eq-eqb, ne-eqb, eqb-true}
-use Rattle.rules.specs.declared.Rule.{Rule}
 use Rattle.rules.specs.declared.RuleList.{RuleList}
 use Rattle.rules.specs.declared.refusal.Refusal.{Refusal}
 use Rattle.rules.specs.declared.Checked.the-variants.{Accepted, Refused}
@@ -18,15 +15,11 @@ use Rattle.rules.specs.Check.{within, unless, activeRules, checkOf}
 use Rattle.rules.specs.CheckLaws.{both, between, accepted}
 use Rattle.runlength.specs.Scale.{minHorizon, maxHorizon, weightTotal}
 use Rattle.runlength.specs.Sum.{at, sum}
-use Rattle.states.specs.States.{moves}
-use Rattle.states.specs.Automata.{stateAutomaton}
-use Rattle.states.specs.Explore.{Explored}
-use Rattle.merge.specs.Merge.{mergedCount, mergedMoves, Mergeable}
-use Rattle.merge.specs.MergeLaws.{merged-most, merged-length}
-use Rattle.merge.specs.OwnMovesLaws.{same-count, same-moves}
-use Rattle.table.specs.TableChain.{exploredCount, stateCount, chainMoves}
+use Rattle.chain.specs.TableChain.{exploredCount}
+use Rattle.chain.specs.declared.ChartAnswer.{ChartAnswer}
+use Rattle.chain.specs.ChainMade.{ChainMade}
+use Rattle.table.specs.ChartChecked.{ChartChecked}
 use Rattle.table.specs.Table.{chartCheck}
-use Rattle.table.specs.ChartChecked.{HoldsMoves}
 use Rattle.table.specs.AcceptedTable.{AcceptedChart}
 
 module _ (l : RuleList) (w : List ℕ) (h : ℕ) where
@@ -55,11 +48,11 @@ module _ (l : RuleList) (w : List ℕ) (h : ℕ) where
 
         module _ (high : h ≤ maxHorizon) where
           -- 10
-          pub too-many-states : maxStates < exploredCount (activeRules l) → chartCheck l w h ≡ Refused tooManyStates
+          pub too-many-states : maxStates < exploredCount (activeRules l) → chartCheck l w h ≡ Refused (tooManyStates 0)
           unfolding chartCheck
           too-many-states n =
               rw (rules, eq-eqb (sum zoneCount (at w)) weightTotal weights, le-leb minHorizon h low, le-leb h maxHorizon high)
-              (ap (λ b. unless b tooManyStates) (lt-leb (exploredCount (activeRules l)) maxStates n))
+              (ap (λ b. unless b (tooManyStates 0)) (lt-leb (exploredCount (activeRules l)) maxStates n))
 
           -- none of them
           pub chart-passes : exploredCount (activeRules l) ≤ maxStates → chartCheck l w h ≡ Accepted
@@ -71,6 +64,11 @@ module _ (l : RuleList) (w : List ℕ) (h : ℕ) where
             le-leb h maxHorizon high,
             le-leb (exploredCount (activeRules l)) maxStates n,
           )
+
+          -- what the chain answers is the rest of the check
+          pub chart-made : (m : List ℕ) (a : ChartAnswer) → ChainMade (activeRules l) m a → ChartChecked l w h m a
+          chart-made m (ChartAnswer.Accepted n) c = (chart-passes (c .0), c .1)
+          chart-made m (ChartAnswer.Refused x) c = too-many-states (c .0) ∙ ap Refused (sym (c .1))
 
 -- a test that accepts has passed
 pub passed : (t : Bool) (x : Refusal) → unless t x ≡ Accepted → t ≡ true
@@ -91,50 +89,9 @@ accepted-chart l w h e =
       weights = eqb-true _ _ (passed _ badWeights (b .0));
       some-horizon = g .0;
       most-horizon = g .1;
-      few = leb-true _ _ (passed _ tooManyStates (c .1));
+      few = leb-true _ _ (passed _ (tooManyStates 0) (c .1));
     }
 
 -- and the other way round
 pub chart-accepted : {l : RuleList} {w : List ℕ} {h : ℕ} → AcceptedChart l w h → chartCheck l w h ≡ Accepted
 chart-accepted {l} {w} {h} c = chart-passes l w h (c .rules) (c .weights) (c .some-horizon) (c .most-horizon) (c .few)
-
--- ---- what exploring and merging leave
-
-module _ (rs : List Rule) {found e : List ℕ} {n : ℕ} (x : Explored (stateAutomaton rs) found e n) where
-  -- so many are explored
-  pub explored-count : n ≡ exploredCount rs
-  unfolding exploredCount
-  explored-count = x .count
-
-  -- where they are not too many, they can be merged
-  pub explored-merge : n ≤ maxStates → (m : List ℕ) → length m ≡ zoneCount * maxStates → Mergeable n e m
-  explored-merge few m room = record { few = few; moves = omega (arith, x .entries-length); room = omega arith }
-
-  -- the list begins with the moves of the explored states
-  explored-moves : n ≤ maxStates → (k : ℕ) → k < zoneCount * n → at e k ≡ at (moves (stateAutomaton rs)) k
-  explored-moves few k i = sym (getD-take (zoneCount * n) e k 0 i) ∙ ap (λ l. at l k) (x .found-moves few)
-
-  -- merged, the list begins with the moves of the chain
-  module _ (few : n ≤ maxStates) {r : ℕ} (m m′ : List ℕ) (count : r ≡ mergedCount n e)
-      (merged : m′ ≡ mergedMoves n e ++ drop (zoneCount * mergedCount n e) m) where
-    merged-count : r ≡ stateCount rs
-    unfolding stateCount exploredCount
-    merged-count =
-        count ∙ same-count n e (moves (stateAutomaton rs)) (explored-moves few)
-        ∙ ap (λ k. mergedCount k (moves (stateAutomaton rs))) (x .count)
-
-    pub merged-held : zoneCount * n ≤ length m → HoldsMoves rs r m′
-    unfolding chainMoves exploredCount
-    merged-held room =
-        let most = merged-most n e in
-        let long = merged-length n e in
-        record {
-          count = merged-count;
-          few = omega (arith, count);
-          room = omega (arith, ap length merged, length-append (mergedMoves n e) (drop (zoneCount * mergedCount n e) m), count);
-          same = λ k i.
-              ap (λ l. at l k) merged
-              ∙ List·getD-append (mergedMoves n e) (drop (zoneCount * mergedCount n e) m) 0 k (omega (arith, count))
-              ∙ ap (λ l. at l k) (same-moves n e (moves (stateAutomaton rs)) (explored-moves few))
-              ∙ ap (λ j. at (mergedMoves j (moves (stateAutomaton rs))) k) (x .count);
-        }

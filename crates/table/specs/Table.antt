@@ -13,7 +13,7 @@ use Rattle.rules.specs.Check.{within, orElse, unless, activeRules, checkOf}
 use Rattle.runlength.specs.Scale.{minHorizon, maxHorizon, weightTotal, unitsPerOne}
 use Rattle.runlength.specs.Sum.{at, sum, front}
 use Rattle.runlength.specs.Chain.{Chain, pmf, survival, restrictedMean}
-use Rattle.table.specs.TableChain.{exploredCount, tableChain}
+use Rattle.chain.specs.TableChain.{exploredCount, tableChain}
 use Rattle.table.specs.declared.TableFigures.{TableFigures}
 use Rattle.table.specs.declared.TableAnswer.{TableAnswer}
 
@@ -43,7 +43,7 @@ chartCheck l weights horizon =
     orElse (checkOf l)
     (orElse (unless (eqb (sum zoneCount (at weights)) weightTotal) badWeights)
     (orElse (unless (within minHorizon maxHorizon horizon) badHorizon)
-    (unless (leb (exploredCount (activeRules l)) maxStates) tooManyStates)))
+    (unless (leb (exploredCount (activeRules l)) maxStates) (tooManyStates 0))))
 
 -- of a call: the chart's; then 11 for either list
 unfoldable pub tableCheck : TableCall → Checked

@@ -18,10 +18,10 @@ use Rattle.runlength.specs.Listed.{listedChain}
 use Rattle.rows.specs.Rows.{Ran}
 use Rattle.table.specs.declared.TableFigures.{TableFigures}
 use Rattle.table.specs.declared.TableAnswer.{TableAnswer}
-use Rattle.table.specs.TableChain.{chainMoves, tableAutomaton}
+use Rattle.chain.specs.TableChain.{chainMoves, tableAutomaton}
 use Rattle.table.specs.Table.{TableCall, rulesOf, chainOf, chartCheck, tableCheck, tableResult, filled, tableOf}
-use Rattle.table.specs.ChartChecked.{HoldsMoves}
-use Rattle.table.specs.PrefixLaws.{front-cong, pmf-same, survival-same, mean-same}
+use Rattle.chain.specs.HeldMoves.{HoldsMoves}
+use Rattle.chain.specs.PrefixLaws.{front-cong, pmf-same, survival-same, mean-same}
 
 module _ (t : TableCall) where
   -- refused with both lists as they were

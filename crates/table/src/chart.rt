@@ -1,4 +1,5 @@
 // The checks of a chart: its rules, weights, horizon and number of states.
+use chain::ChartAnswer;
 use rules::Checked;
 use rules::Refusal;
 use rules::RuleList;
@@ -15,12 +16,6 @@ ghost use Rattle.rules.specs.Refusal.{refusal};
 ghost use Rattle.rules.specs.declared.Checked.the-variants.{Accepted};
 ghost use Rattle.runlength.specs.Sum.{at, sum};
 ghost use Rattle.table.specs.ChartChecked.{ChartChecked};
-
-// So many states that differ, or why the chart is refused.
-pub enum ChartAnswer {
-    Accepted(usize),
-    Refused(Refusal),
-}
 
 fn refused(number: u32) -> ChartAnswer
     ensures { λ r. ⌜ r ≡ ChartAnswer.Refused (refusal number 0) ⌝ }
@@ -62,14 +57,7 @@ fn explored_chart(
     if horizon > MAX_HORIZON {
         return refused(Refusal::HORIZON);
     }
-    let mut found = [0u64; RuleList::MAX_STATES];
-    let mut explored = [0u16; ZONES * RuleList::MAX_STATES];
-    let n = states::explore(list, &mut found, &mut explored);
-    if n > RuleList::MAX_STATES {
-        return refused(Refusal::STATES);
-    }
-    let count = merge::merge(&explored, n, moves);
-    ChartAnswer::Accepted(count)
+    chain::chain_moves(list, moves)
 }
 
 // A chart: 2, 3, 4; 8; 9; 10, or the number of states that differ, with their moves in the list. For the crates of this repository: it has a

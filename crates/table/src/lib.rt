@@ -1,4 +1,5 @@
 // The run-length table of a rule list: how likely a chart is to signal at each point up to a horizon.
+use chain::ChartAnswer;
 use rules::Refusal;
 use rules::RuleList;
 use rules::ZONES;
@@ -7,7 +8,6 @@ ghost use Rattle.table.specs.Table.{tableCall, tableResult, tableOf};
 
 mod chart;
 
-pub use chart::ChartAnswer;
 pub use chart::check_chart;
 
 // What an accepted call answers besides the two lists: N, the number of states that differ, left at the horizon, and the cut mean as whole

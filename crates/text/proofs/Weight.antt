@@ -7,12 +7,12 @@ use native.Mathlib.Numerals.{add-one}
 use lib.ListN.{length, take, set}
 use lib.Seq.{take-suc-set, take-all}
 use Rattle.rules.specs.Bounds.{zoneCount}
-use Rattle.text.specs.declared.number.Number.the-variants.{Value, NoNumber}
-use Rattle.text.specs.declared.word.Found.the-variants.{At, Absent}
+use Rattle.decimal.specs.declared.number.Number.the-variants.{Value, NoNumber}
+use Rattle.decimal.specs.declared.word.Found.the-variants.{At, Absent}
 use Rattle.text.specs.declared.lines.Line.{Line}
 use Rattle.text.specs.declared.lines.Line.the-variants.{Weights, Other}
-use Rattle.text.specs.Word.{newline, wordAt}
-use Rattle.text.specs.Number.{fieldAt}
+use Rattle.decimal.specs.Word.{newline, wordAt}
+use Rattle.decimal.specs.Number.{fieldAt}
 use Rattle.text.specs.Line.{zoneWeights, fieldsFrom}
 
 -- what is read from p on, the first i weights being in w

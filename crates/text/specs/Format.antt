@@ -1,25 +1,13 @@
 -- TO BELIEVE: the format: the bytes that each kind of line is. Definitions.
-use Prim.Native.Nat.{ℕ, suc, _≤_}
-use mathlib.Core.List.{List, [], _∷_, _++_}
-use lib.IntN.{ℤ, pos, negsuc}
+use Prim.Native.Nat.{ℕ}
+use mathlib.Core.List.{List, [], _++_}
 use Rattle.text.specs.declared.lines.Line.{Line}
 use Rattle.text.specs.declared.lines.Line.the-variants.{Weights, Rule, Horizon, Chart, Point, Shift, Other}
-use Rattle.rules.specs.Bounds.{maxNumber}
 use Rattle.rules.specs.Weights.{weightList}
-use Rattle.text.specs.Decimal.{decimal, signedDecimal, maxPositive, maxNegative}
-use Rattle.text.specs.Spans.{Spans}
-use Rattle.text.specs.Word.{comma, newline, weightsWord, ruleWord, horizonWord, chartWord, pointWord, shiftWord}
-
--- a field is a comma and a number
-unfoldable pub field : ℕ → List ℕ
-field n = comma ++ decimal n
-
-abbrev pub signedField : ℤ → List ℕ
-signedField x = comma ++ signedDecimal x
-
-unfoldable pub fields : List ℕ → List ℕ
-fields [] = []
-fields (n ∷ ns) = field n ++ fields ns
+use Rattle.decimal.specs.Spans.{Spans}
+use Rattle.decimal.specs.Word.{newline}
+use Rattle.text.specs.Keywords.{weightsWord, ruleWord, horizonWord, chartWord, pointWord, shiftWord}
+use Rattle.decimal.specs.Fields.{AllUnsigned, InSigned, Unsigned, field, fields, signedField}
 
 -- the bytes of a line: its keyword, its fields, and LF
 abbrev pub bytesOf : Line → List ℕ
@@ -50,19 +38,6 @@ NotOther (Chart centre sigma next) = Unit {0}
 NotOther (Point node reading next) = Unit {0}
 NotOther (Shift shift next) = Unit {0}
 NotOther Other = ⊥
-
--- numbers within 32 bits
-abbrev pub Unsigned : ℕ → Type 0
-Unsigned n = n ≤ maxNumber
-
-pub data AllUnsigned : List ℕ → Type 0 where
-  none : AllUnsigned []
-  one : {n : ℕ} {ns : List ℕ} → Unsigned n → AllUnsigned ns → AllUnsigned (n ∷ ns)
-
--- negsuc n is -(n + 1)
-abbrev pub InSigned : ℤ → Type 0
-InSigned (pos n) = n ≤ maxPositive
-InSigned (negsuc n) = suc n ≤ maxNegative
 
 -- every number of the line is within 32 bits; Other is no line
 abbrev pub InRange : Line → Type 0

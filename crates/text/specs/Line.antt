@@ -8,9 +8,10 @@ use Rattle.text.specs.declared.lines.Line.{Line}
 use Rattle.text.specs.declared.lines.Line.the-variants.{Weights, Rule, Horizon, Chart, Point, Shift, Other}
 use Rattle.text.specs.declared.lines.RuleLine.{RuleLine}
 use Rattle.text.specs.declared.lines.RuleLine.the-variants.{Unreadable}
-use Rattle.text.specs.Word.{newline, weightsWord, ruleWord, horizonWord, chartWord, pointWord, shiftWord, wordAt, onFound}
-use Rattle.text.specs.Number.{fieldAt, onNumber}
-use Rattle.text.specs.Signed.{signedFieldAt, signedEnd, onSigned}
+use Rattle.decimal.specs.Word.{newline, wordAt, onFound}
+use Rattle.text.specs.Keywords.{weightsWord, ruleWord, horizonWord, chartWord, pointWord, shiftWord}
+use Rattle.decimal.specs.Number.{fieldAt, onNumber}
+use Rattle.decimal.specs.Signed.{signedFieldAt, signedEnd, onSigned}
 use Rattle.text.specs.OnLine.{onRule}
 
 -- the weights in the order of the zones

@@ -7,29 +7,32 @@ use native.Mathlib.Omega.{arith}
 use lib.ListN.{length, length-append}
 use lib.IntN.{ℤ}
 use Rattle.rules.specs.Bounds.{zoneCount}
-use Rattle.text.specs.declared.number.Number.{Number}
-use Rattle.text.specs.declared.number.Number.the-variants.{Value, NoNumber}
-use Rattle.text.specs.declared.signed.Signed.{Signed}
-use Rattle.text.specs.declared.signed.Signed.the-variants.{Whole, NoSigned}
-use Rattle.text.specs.declared.word.Found.{Found}
-use Rattle.text.specs.declared.word.Found.the-variants.{At, Absent}
+use Rattle.decimal.specs.declared.number.Number.{Number}
+use Rattle.decimal.specs.declared.number.Number.the-variants.{Value, NoNumber}
+use Rattle.decimal.specs.declared.signed.Signed.{Signed}
+use Rattle.decimal.specs.declared.signed.Signed.the-variants.{Whole, NoSigned}
+use Rattle.decimal.specs.declared.word.Found.{Found}
+use Rattle.decimal.specs.declared.word.Found.the-variants.{At, Absent}
 use Rattle.text.specs.declared.lines.Line.{Line}
 use Rattle.text.specs.declared.lines.Line.the-variants.{Weights, Rule, Horizon, Chart, Point, Shift, Other}
-use Rattle.text.specs.DecimalLaws.{decimal-some, signed-some}
-use Rattle.text.specs.Spans.{Spans}
-use Rattle.text.specs.SpansLaws.{spans-then, spans-within}
+use Rattle.decimal.specs.DecimalLaws.{decimal-some, signed-some}
+use Rattle.decimal.specs.Spans.{Spans}
+use Rattle.decimal.specs.SpansLaws.{spans-then, spans-within}
 use Rattle.text.specs.Size.{minPoint, minLine}
-use Rattle.text.specs.Word.{newline, weightsWord, ruleWord, horizonWord, chartWord, pointWord, shiftWord, wordAt, onFound}
-use Rattle.text.specs.WordLaws.{word-spans}
-use Rattle.text.specs.Number.{fieldAt, onNumber}
-use Rattle.text.specs.NumberLaws.{field-is}
-use Rattle.text.specs.Signed.{signedFieldAt, signedEnd, onSigned}
-use Rattle.text.specs.SignedLaws.{signed-field-is, signed-end}
+use Rattle.decimal.specs.Word.{newline, wordAt, onFound}
+use Rattle.text.specs.Keywords.{weightsWord, ruleWord, horizonWord, chartWord, pointWord, shiftWord}
+use Rattle.decimal.specs.WordLaws.{word-spans}
+use Rattle.decimal.specs.Number.{fieldAt, onNumber}
+use Rattle.decimal.specs.NumberLaws.{field-is}
+use Rattle.decimal.specs.Signed.{signedFieldAt, signedEnd, onSigned}
+use Rattle.decimal.specs.SignedLaws.{signed-field-is, signed-end}
 use Rattle.text.specs.Line.{zoneWeights, fieldsFrom, weightsFrom, ruleFrom, horizonFrom, chartFrom}
 use Rattle.text.specs.Line.{pointFrom, shiftFrom, lineAt}
 use Rattle.rules.specs.Weights.{weightList}
-use Rattle.text.specs.Format.{field, signedField, fields, Unsigned, AllUnsigned, none, InSigned, InRange, bytesOf, nextOf, NotOther, LineIs}
-use Rattle.text.specs.FieldsLaws.{fields-snoc, unsigned-snoc, weight-list}
+use Rattle.text.specs.Format.{InRange, bytesOf, nextOf, NotOther, LineIs}
+use Rattle.decimal.specs.Fields.{field, signedField, fields, Unsigned, AllUnsigned, none, InSigned}
+use Rattle.decimal.specs.FieldsLaws.{fields-snoc, unsigned-snoc}
+use Rattle.text.specs.WeightListLaws.{weight-list}
 
 module _ (s : List ℕ) (at : ℕ) where
   -- no line, or the line that stands at the offset

@@ -10,17 +10,18 @@ use lib.IntN.{ℤ}
 use Rattle.rules.specs.declared.weights.ZoneWeights.{ZoneWeights}
 use Rattle.text.specs.declared.lines.Line.{Line}
 use Rattle.text.specs.declared.lines.Line.the-variants.{Weights, Rule, Horizon, Chart, Point, Shift, Other}
-use Rattle.text.specs.Spans.{Spans}
-use Rattle.text.specs.SpansLaws.{spans-front, spans-back, spans-first}
-use Rattle.text.specs.Word.{newline, weightsWord, ruleWord, horizonWord, chartWord, pointWord, shiftWord}
-use Rattle.text.specs.WordLaws.{word-read, word-absent}
-use Rattle.text.specs.Number.{NoDigit}
-use Rattle.text.specs.ReadBackLaws.{field-read}
-use Rattle.text.specs.SignedLaws.{signed-field-read, signed-end}
+use Rattle.decimal.specs.Spans.{Spans}
+use Rattle.decimal.specs.SpansLaws.{spans-front, spans-back, spans-first}
+use Rattle.decimal.specs.Word.{newline}
+use Rattle.text.specs.Keywords.{weightsWord, ruleWord, horizonWord, chartWord, pointWord, shiftWord}
+use Rattle.decimal.specs.WordLaws.{word-read, word-absent}
+use Rattle.decimal.specs.Number.{NoDigit}
+use Rattle.decimal.specs.ReadBackLaws.{field-read}
+use Rattle.decimal.specs.SignedLaws.{signed-field-read, signed-end}
 use Rattle.text.specs.Line.{zoneWeights, fieldsFrom, weightsFrom, ruleFrom, horizonFrom, chartFrom, pointFrom, shiftFrom, lineAt}
 use Rattle.text.specs.Kind.{kindOf}
 use Rattle.rules.specs.Weights.{weightList}
-use Rattle.text.specs.Format.{field, signedField, fields, AllUnsigned, none, one}
+use Rattle.decimal.specs.Fields.{field, signedField, fields, AllUnsigned, none, one}
 use Rattle.text.specs.Format.{bytesOf, InRange, LineIs}
 
 -- a separator is no digit

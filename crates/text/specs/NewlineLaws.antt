@@ -7,9 +7,11 @@ use lib.IntN.{ℤ, pos, negsuc}
 use borrow.Author.Tests.{ne-eqb}
 use Rattle.text.specs.declared.lines.Line.{Line}
 use Rattle.text.specs.declared.lines.Line.the-variants.{Weights, Rule, Horizon, Chart, Point, Shift, Other}
-use Rattle.text.specs.Decimal.{digitByte, digitsOf, decimal, signedDecimal}
-use Rattle.text.specs.Format.{field, signedField, fields, bytesOf, NotOther}
-use Rattle.text.specs.Word.{newlines, weightsWord, ruleWord, horizonWord, chartWord, pointWord, shiftWord}
+use Rattle.decimal.specs.Decimal.{digitByte, digitsOf, decimal, signedDecimal}
+use Rattle.text.specs.Format.{bytesOf, NotOther}
+use Rattle.decimal.specs.Fields.{field, signedField, fields}
+use Rattle.text.specs.Newlines.{newlines}
+use Rattle.text.specs.Keywords.{weightsWord, ruleWord, horizonWord, chartWord, pointWord, shiftWord}
 
 pub newlines-append : (xs ys : List ℕ) → newlines (xs ++ ys) ≡ newlines xs + newlines ys
 unfolding newlines

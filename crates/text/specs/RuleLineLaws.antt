@@ -5,18 +5,19 @@ use mathlib.Core.Logic.{_⊎_, inl, inr, ⊎-elim}
 use mathlib.Core.List.{List, _++_}
 use native.Mathlib.Omega.{arith}
 use lib.ListN.{length}
-use Rattle.text.specs.declared.number.Number.{Number}
-use Rattle.text.specs.declared.number.Number.the-variants.{Value, NoNumber}
-use Rattle.text.specs.declared.word.Found.{Found}
-use Rattle.text.specs.declared.word.Found.the-variants.{At, Absent}
+use Rattle.decimal.specs.declared.number.Number.{Number}
+use Rattle.decimal.specs.declared.number.Number.the-variants.{Value, NoNumber}
+use Rattle.decimal.specs.declared.word.Found.{Found}
+use Rattle.decimal.specs.declared.word.Found.the-variants.{At, Absent}
 use Rattle.text.specs.declared.lines.Line.{Line}
 use Rattle.text.specs.declared.lines.Line.the-variants.{Rule, Other}
 use Rattle.text.specs.declared.lines.RuleLine.{RuleLine}
-use Rattle.text.specs.SpansLaws.{spans-within, spans-front, spans-first}
-use Rattle.text.specs.Word.{newline, ruleWord, wordAt, onFound}
-use Rattle.text.specs.WordLaws.{word-spans, word-read, word-absent}
-use Rattle.text.specs.Number.{fieldAt, onNumber}
-use Rattle.text.specs.Format.{field}
+use Rattle.decimal.specs.SpansLaws.{spans-within, spans-front, spans-first}
+use Rattle.decimal.specs.Word.{newline, wordAt, onFound}
+use Rattle.text.specs.Keywords.{ruleWord}
+use Rattle.decimal.specs.WordLaws.{word-spans, word-read, word-absent}
+use Rattle.decimal.specs.Number.{fieldAt, onNumber}
+use Rattle.decimal.specs.Fields.{field}
 use Rattle.text.specs.Kind.{rule, kindOf, NotOf}
 use Rattle.text.specs.KindLaws.{rule-or-none, rule-passed}
 use Rattle.text.specs.OnLine.{onRule}

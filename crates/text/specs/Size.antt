@@ -1,7 +1,8 @@
 -- TO BELIEVE: the longest text that is read, and the shortest lines. Definitions.
 use Prim.Native.Nat.{ℕ, _+_}
 use lib.ListN.{length}
-use Rattle.text.specs.Word.{comma, newline, pointWord, shiftWord}
+use Rattle.decimal.specs.Word.{comma, newline}
+use Rattle.text.specs.Keywords.{pointWord, shiftWord}
 
 -- in bytes
 abbrev pub maxText : ℕ

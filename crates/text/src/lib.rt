@@ -1,21 +1,13 @@
 // The programs' text: reading a line at an offset of a lent text, and writing words and numbers into a lent buffer.
 // The longest text that is read, in bytes.
+
 pub const MAX_TEXT: usize = 65536;
 
 // The fewest bytes of a point line: `point`, two commas, each with a digit, LF.
 pub const MIN_POINT: usize = 5 + 1 + 1 + 1 + 1 + 1;
 
-// The most digits of a number of 64 bits, and of one of 32 bits.
-pub const NUMBER_ROOM: usize = 20;
-
-pub const SHORT_ROOM: usize = 10;
-
 mod lines;
-mod number;
 mod reader;
-mod signed;
-mod word;
-mod write;
 
 pub use lines::Line;
 pub use lines::RuleLine;
@@ -25,7 +17,3 @@ pub use lines::rule_line;
 pub use reader::Reader;
 pub use reader::line;
 pub use reader::moved;
-pub use write::put_byte;
-pub use write::put_bytes;
-pub use write::put_number;
-pub use write::put_short;

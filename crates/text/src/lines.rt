@@ -1,11 +1,11 @@
 // The lines of a text: a keyword, fields each behind a comma, and LF.
-use crate::number::Number;
-use crate::number::field;
-use crate::signed::Signed;
-use crate::signed::signed_end;
-use crate::signed::signed_field;
-use crate::word::Found;
-use crate::word::past;
+use decimal::Found;
+use decimal::Number;
+use decimal::Signed;
+use decimal::field;
+use decimal::past;
+use decimal::signed_end;
+use decimal::signed_field;
 use rules::ZONES;
 use rules::ZoneWeights;
 ghost use mathlib.Core.Path.{_≡_};

@@ -33,18 +33,18 @@ pub fn example() {
 
 pub fn early_signal() {
     let l = list_of(Rule::new(2, 3, 2), Rule::new(0, 0, 0), 1);
-    let m = point(b"A1", Monitor::fresh(), l, ZoneAnswer::A1);
-    point(b"A1", m, l, ZoneAnswer::A1);
+    let m = point(b"A1", Monitor::fresh(), l, monitor::ZONE_A1);
+    point(b"A1", m, l, monitor::ZONE_A1);
 }
 
 // Rule 0 is 2,3 on A1 and rule 1 is 3,9 on A1 and B1: rule 1 signals, and rule 0 forgets its hit too, so one more A1 stays quiet.
 pub fn reset_all() {
     let l = list_of(Rule::new(2, 3, 2), Rule::new(3, 9, 6), 2);
-    let m = point(b"B1", Monitor::fresh(), l, ZoneAnswer::B1);
-    let m = point(b"B1", m, l, ZoneAnswer::B1);
-    let m = point(b"A1", m, l, ZoneAnswer::A1);
-    let m = point(b"A1", m, l, ZoneAnswer::A1);
-    point(b"A1", m, l, ZoneAnswer::A1);
+    let m = point(b"B1", Monitor::fresh(), l, monitor::ZONE_B1);
+    let m = point(b"B1", m, l, monitor::ZONE_B1);
+    let m = point(b"A1", m, l, monitor::ZONE_A1);
+    let m = point(b"A1", m, l, monitor::ZONE_A1);
+    point(b"A1", m, l, monitor::ZONE_A1);
 }
 
 // A step with one rule, from the state and count given.
@@ -136,7 +136,7 @@ pub fn refusals() {
 pub fn unmet_state() {
     let first = Rule::new(2, 2, 2);
     let second = Rule::new(2, 2, 64);
-    pair(b"C1", first, second, 257, ZoneAnswer::C1);
-    pair(b"A1", first, second, 257, ZoneAnswer::A1);
-    pair(b"A2", first, second, 257, ZoneAnswer::A2);
+    pair(b"C1", first, second, 257, monitor::ZONE_C1);
+    pair(b"A1", first, second, 257, monitor::ZONE_A1);
+    pair(b"A2", first, second, 257, monitor::ZONE_A2);
 }

@@ -1,6 +1,5 @@
 // What each program prints for a text: the whole of it or, where it is long, its start, its end and what tells whether the rest is right.
 use crate::bytes;
-use report::ReportAnswer;
 
 // The most bytes that are shown whole, and the first and the last lines that are shown of more.
 const WHOLE: usize = 400;
@@ -32,39 +31,21 @@ fn written(out: &[u8]) {
 }
 
 fn table(text: &[u8]) {
-    let mut out = [0u8; ReportAnswer::TABLE_SIZE];
-    match report::table_report(text, &mut out) {
-        ReportAnswer::Written(n) => {
-            written(&out[..n]);
-        }
-        ReportAnswer::Refused(r) => {
-            output::refused(r);
-        }
-    }
+    let mut out = [0u8; table_report::TABLE_SIZE];
+    let len = table_report::table_output(text, &mut out);
+    written(&out[..len]);
 }
 
 fn monitor(text: &[u8]) {
-    let mut out = [0u8; ReportAnswer::MONITOR_SIZE];
-    match report::monitor_report(text, &mut out) {
-        ReportAnswer::Written(n) => {
-            written(&out[..n]);
-        }
-        ReportAnswer::Refused(r) => {
-            output::refused(r);
-        }
-    }
+    let mut out = [0u8; monitor_report::MONITOR_SIZE];
+    let len = monitor_report::monitor_output(text, &mut out);
+    written(&out[..len]);
 }
 
 fn weights(text: &[u8]) {
-    let mut out = [0u8; ReportAnswer::WEIGHTS_SIZE];
-    match report::weights_report(text, &mut out) {
-        ReportAnswer::Written(n) => {
-            written(&out[..n]);
-        }
-        ReportAnswer::Refused(r) => {
-            output::refused(r);
-        }
-    }
+    let mut out = [0u8; weights_report::WEIGHTS_SIZE];
+    let len = weights_report::weights_output(text, &mut out);
+    written(&out[..len]);
 }
 
 // A path's first byte; 0 where it has none.

@@ -5,7 +5,8 @@ use native.Mathlib.Omega.{arith}
 use lib.ListN.{length}
 use Rattle.runlength.specs.Scale.{unitsPerOne}
 use Rattle.runlength.specs.Chain.{cdfOf}
-use Rattle.bracket.specs.CdfLaws.{cdf-zero, cdf-more, total-over, total-within}
+use Rattle.runlength.specs.CdfLaws.{cdf-zero, cdf-more}
+use Rattle.bracket.specs.TotalLaws.{total-over, total-within}
 use borrow.Author.Needs.{needs}
 use Rattle.bracket.proofs.sum_fits.Statement.{statement}
 use Rattle.bracket.proofs.sum_fits.Tie as tie

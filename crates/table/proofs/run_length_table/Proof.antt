@@ -6,7 +6,7 @@ use Rattle.table.specs.Table.{tableCall}
 use Rattle.table.specs.ChartCheckedLaws.{refused-chart, passed-chart, held-moves}
 use Rattle.table.specs.ChartLaws.{accepted-chart}
 use Rattle.table.specs.TableLaws.{chart-refused, short-pmf, short-survival, all-passed, rows-filled}
-use Rattle.table.specs.TableChainLaws.{count-some}
+use Rattle.chain.specs.TableChainLaws.{count-some}
 use borrow.Author.Needs.{needs}
 use Rattle.table.proofs.run_length_table.Statement.{statement}
 use Rattle.table.proofs.run_length_table.Tie as tie

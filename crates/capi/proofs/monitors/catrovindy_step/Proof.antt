@@ -1,6 +1,6 @@
 -- `monitors::catrovindy_step` meets its contract: by the step's answer.
 use mathlib.Core.Path.{refl}
-use Rattle.capi.specs.Codes.{slotList}
+use Rattle.codes.specs.Codes.{slotList}
 use Rattle.capi.specs.MonitorCall.{monitorOf}
 use Rattle.capi.specs.MonitorCallLaws.{step-call}
 use borrow.Author.Needs.{needs}

@@ -3,7 +3,7 @@ use mathlib.Core.Path.{refl, ap, _∙_}
 use Rattle.rules.specs.declared.RuleList.{RuleList}
 use Rattle.table.specs.Table.{tableCall}
 use Rattle.plot.specs.Plot.{boxPlotOf}
-use Rattle.capi.specs.Codes.{slotList}
+use Rattle.codes.specs.Codes.{slotList}
 use Rattle.capi.specs.PlotCallLaws.{plot-call}
 use borrow.Author.Needs.{needs}
 use Rattle.capi.proofs.plots.catrovindy_plot.Statement.{statement}

@@ -1,5 +1,5 @@
 -- `reports::catrovindy_monitor_report` meets its contract: by the report's answer.
-use Rattle.report.specs.MonitorReport.{monitorPrinted}
+use Rattle.monitor_report.specs.MonitorReport.{monitorPrinted}
 use Rattle.capi.specs.ReportCallLaws.{report-call}
 use borrow.Author.Needs.{needs}
 use Rattle.capi.proofs.reports.catrovindy_monitor_report.Statement.{statement}

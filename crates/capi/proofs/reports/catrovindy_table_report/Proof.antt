@@ -1,5 +1,5 @@
 -- `reports::catrovindy_table_report` meets its contract: by the report's answer.
-use Rattle.report.specs.TableReport.{tablePrinted}
+use Rattle.table_report.specs.TableReport.{tablePrinted}
 use Rattle.capi.specs.ReportCallLaws.{report-call}
 use borrow.Author.Needs.{needs}
 use Rattle.capi.proofs.reports.catrovindy_table_report.Statement.{statement}

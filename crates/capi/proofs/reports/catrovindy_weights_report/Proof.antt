@@ -1,5 +1,5 @@
 -- `reports::catrovindy_weights_report` meets its contract: by the report's answer.
-use Rattle.report.specs.WeightsReport.{weightsPrinted}
+use Rattle.weights_report.specs.WeightsReport.{weightsPrinted}
 use Rattle.capi.specs.ReportCallLaws.{report-call}
 use borrow.Author.Needs.{needs}
 use Rattle.capi.proofs.reports.catrovindy_weights_report.Statement.{statement}

@@ -2,7 +2,7 @@
 use mathlib.Core.Path.{ap, _∙_}
 use Rattle.rules.specs.declared.RuleList.{RuleList}
 use Rattle.table.specs.Table.{tableCall, tableOf}
-use Rattle.capi.specs.Codes.{slotList}
+use Rattle.codes.specs.Codes.{slotList}
 use Rattle.capi.specs.TableCallLaws.{call-refused, call-accepted}
 use borrow.Author.Needs.{needs}
 use Rattle.capi.proofs.tables.catrovindy_table.Statement.{statement}

@@ -4,7 +4,7 @@ use mathlib.Core.Path.{_≡_, sym, _∙_}
 use native.Mathlib.Omega.{arith}
 use mir.Val.{toZ, ofZ}
 use mir.Syntax.{w32}
-use Rattle.parse.specs.ElseLaws.{else-chart}
+use Rattle.rule_lines.specs.ElseLaws.{else-chart}
 use Rattle.parse.proofs.PartCases.{first-is, rules-are, points-are}
 use Rattle.parse.proofs.MonitorCases.{too-long, other-first, refused-rule, line-fits, goes-on, node-fits, off-bench, whole}
 use Rattle.parse.proofs.monitors.monitor_text.Statement.{statement}

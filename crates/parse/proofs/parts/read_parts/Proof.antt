@@ -49,15 +49,15 @@ use Rattle.text.proofs.reader.Reader as T
 use Rattle.text.proofs.reader.Reader.Laws as T′
 use Rattle.text.proofs.lines.Line as S
 use Rattle.text.proofs.lines.Line.Laws as S′
-use Rattle.parse.specs.declared.rule_lines.RulesRead.{RulesRead}
+use Rattle.rule_lines.specs.declared.rule_lines.RulesRead.{RulesRead}
 use Rattle.parse.specs.declared.point_lines.PointsRead.{PointsRead}
 use Rattle.parse.specs.declared.parts.Parts.{Parts}
 use Rattle.text.specs.Size.{maxText}
-use Rattle.parse.specs.Rules.{rulesRead}
+use Rattle.rule_lines.specs.Rules.{rulesRead}
 use Rattle.parse.specs.Readings.{pointsRead}
 use Rattle.parse.specs.Parts.{parts, partsOf}
-use Rattle.parse.proofs.rule_lines.RulesRead as R
-use Rattle.parse.proofs.rule_lines.RulesRead.Laws as R′
+use Rattle.rule_lines.proofs.rule_lines.RulesRead as R
+use Rattle.rule_lines.proofs.rule_lines.RulesRead.Laws as R′
 use Rattle.parse.proofs.point_lines.PointsRead as Q
 use Rattle.parse.proofs.point_lines.PointsRead.Laws as Q′
 use Rattle.parse.proofs.parts.Parts as P
@@ -74,10 +74,10 @@ use Rattle.text.proofs.moved as moved
 use Rattle.text.proofs.moved.Symbol as moved-def
 use Rattle.text.proofs.moved.Symbol.{name as #text·moved}
 use Rattle.text.proofs.moved.Met as moved-thm
-use Rattle.parse.proofs.rule_lines.rules as rules
-use Rattle.parse.proofs.rule_lines.rules.Symbol as rules-def
-use Rattle.parse.proofs.rule_lines.rules.Symbol.{name as #parse·rule-lines·rules}
-use Rattle.parse.proofs.rule_lines.rules.Met as rules-thm
+use Rattle.rule_lines.proofs.rules as rules
+use Rattle.rule_lines.proofs.rules.Symbol as rules-def
+use Rattle.rule_lines.proofs.rules.Symbol.{name as #rule-lines·rules}
+use Rattle.rule_lines.proofs.rules.Met as rules-thm
 use Rattle.parse.proofs.point_lines.points as points
 use Rattle.parse.proofs.point_lines.points.Symbol as points-def
 use Rattle.parse.proofs.point_lines.points.Symbol.{name as #parse·point-lines·points}
@@ -214,7 +214,7 @@ module _ {M : Type 1} (𝓤 : URA M) (H : Heap 𝓤) (A : Atoms 𝓤) (W : Given
       suffices ! _ (ends-at 𝓤 H A whole-text.ended stayed (whole-text.clauses 𝓤 H A mem run) W (((κ, tt), (q, tt), tt, (s, tt), (v ∷ [], tt)), tt) u r (tt, tt) (tt, tt)) $ says ! e $
       frame ! $ nothing ! $ move ! (1 ∷ 0 ∷ []) $ fjoin ! $ frame ! $ owned ! P.the-row (Is P.the-row) (LL.makes P.the-type P′.the-plain 𝓤 H A) r (u ∷ []) is $ done !
 
-  module _ (C : Calls 𝓤 H) (Λ : Loops 𝓤 H) (fm : FmC 𝓤 H (W .laws) C) (known-line : Triple 𝓤 (C #text·line) (LineOf 𝓤 H A mem run)) (known-next : Triple 𝓤 (C #text·next-of) (NextOf 𝓤 H A mem run)) (known-moved : Triple 𝓤 (C #text·moved) (Moved 𝓤 H A mem run)) (known-rules : Triple 𝓤 (C #parse·rule-lines·rules) (RulesOf 𝓤 H A mem run)) (known-points : Triple 𝓤 (C #parse·point-lines·points) (PointsOf 𝓤 H A mem run)) where
+  module _ (C : Calls 𝓤 H) (Λ : Loops 𝓤 H) (fm : FmC 𝓤 H (W .laws) C) (known-line : Triple 𝓤 (C #text·line) (LineOf 𝓤 H A mem run)) (known-next : Triple 𝓤 (C #text·next-of) (NextOf 𝓤 H A mem run)) (known-moved : Triple 𝓤 (C #text·moved) (Moved 𝓤 H A mem run)) (known-rules : Triple 𝓤 (C #rule-lines·rules) (RulesOf 𝓤 H A mem run)) (known-points : Triple 𝓤 (C #parse·point-lines·points) (PointsOf 𝓤 H A mem run)) where
     walk : Is (ShrSlice (named 0) κ u8) s (v ∷ []) → ent 𝓤 (onEntry 𝓤 H A whole-text.signature (κ, tt) (q, tt) (s, tt) (v ∷ [], tt)) (WpFn 𝓤 H C Λ code.function (v ∷ []) Post)
     walk p =
         qed W (Tok ∷ ‵ (owns (ShrSlice (named 0) κ u8 ∷ []) (s, tt) (v ∷ [], tt)) ∷ []) ∵ enter ! C Λ code.function (v ∷ []) _ $
@@ -288,14 +288,14 @@ module _ {M : Type 1} (𝓤 : URA M) (H : Heap 𝓤) (A : Atoms 𝓤) (W : Given
 
 module _ {M : Type 1} (𝓤 : URA M) (H : Heap 𝓤) (A : Atoms 𝓤) (W : Given 𝓤 H A) (mem : Memory → SProp 𝓤) (run : Routine → Fun 𝓤) where
   read-parts-walks : (C : Calls 𝓤 H) (Λ : Loops 𝓤 H) → FmC 𝓤 H (W .laws) C
-      → Triple 𝓤 (C #text·line) (LineOf 𝓤 H A mem run) → Triple 𝓤 (C #text·next-of) (NextOf 𝓤 H A mem run) → Triple 𝓤 (C #text·moved) (Moved 𝓤 H A mem run) → Triple 𝓤 (C #parse·rule-lines·rules) (RulesOf 𝓤 H A mem run) → Triple 𝓤 (C #parse·point-lines·points) (PointsOf 𝓤 H A mem run)
+      → Triple 𝓤 (C #text·line) (LineOf 𝓤 H A mem run) → Triple 𝓤 (C #text·next-of) (NextOf 𝓤 H A mem run) → Triple 𝓤 (C #text·moved) (Moved 𝓤 H A mem run) → Triple 𝓤 (C #rule-lines·rules) (RulesOf 𝓤 H A mem run) → Triple 𝓤 (C #parse·point-lines·points) (PointsOf 𝓤 H A mem run)
       → Walks 𝓤 H A whole-text.ended stayed (WpFn 𝓤 H C Λ code.function) (whole-text.clauses 𝓤 H A mem run)
   read-parts-walks C Λ fm known-line known-next known-moved known-rules known-points =
       walked 𝓤 H A whole-text.ended stayed (whole-text.clauses 𝓤 H A mem run) (WpFn 𝓤 H C Λ code.function) (λ κs. (slice-vals, tt)) (λ κs. (shr-slice-tells (named 0) (κs .0) u8, tt))
       (λ κs qs bounds a g are. needs 𝓤 (length (now (a .0)) ≤ maxText) _ (λ short. walk 𝓤 H A W mem run (κs .0) (qs .0) (a .0) short C Λ fm known-line known-next known-moved known-rules known-points (are .0)))
 
 read-parts-meets : {M : Type 1} (𝓤 : URA M) (H : Heap 𝓤) (A : Atoms 𝓤) (W : Given 𝓤 H A) (mem : Memory → SProp 𝓤) (run : Routine → Fun 𝓤) (𝓣 : Tables 𝓤 H)
-    → Triple 𝓤 (𝓣 .C #text·line) (LineOf 𝓤 H A mem run) → Triple 𝓤 (𝓣 .C #text·next-of) (NextOf 𝓤 H A mem run) → Triple 𝓤 (𝓣 .C #text·moved) (Moved 𝓤 H A mem run) → Triple 𝓤 (𝓣 .C #parse·rule-lines·rules) (RulesOf 𝓤 H A mem run) → Triple 𝓤 (𝓣 .C #parse·point-lines·points) (PointsOf 𝓤 H A mem run)
+    → Triple 𝓤 (𝓣 .C #text·line) (LineOf 𝓤 H A mem run) → Triple 𝓤 (𝓣 .C #text·next-of) (NextOf 𝓤 H A mem run) → Triple 𝓤 (𝓣 .C #text·moved) (Moved 𝓤 H A mem run) → Triple 𝓤 (𝓣 .C #rule-lines·rules) (RulesOf 𝓤 H A mem run) → Triple 𝓤 (𝓣 .C #parse·point-lines·points) (PointsOf 𝓤 H A mem run)
     → Meets 𝓤 H A whole-text.signature (WpFn 𝓤 H (𝓣 .C) (𝓣 .Λ) code.function) (whole-text.spec 𝓤 H A mem run)
 read-parts-meets 𝓤 H A W mem run 𝓣 known-line known-next known-moved known-rules known-points =
     walk-meets 𝓤 H A whole-text.ended stayed W (goes-none-slice 𝓤 H A W 1 (0 ∷ []) tt (plain (λ _. u8)) yes, tt) (whole-text.clauses 𝓤 H A mem run) (WpFn 𝓤 H (𝓣 .C) (𝓣 .Λ) code.function) (WpFn-mono 𝓤 H (W .laws) 𝓣 code.function)
@@ -310,5 +310,5 @@ read-parts-spec 𝓤 H 𝓜 𝓖 𝓡 =
     (cited 𝓤 H (LineOf 𝓤 H (𝓖 .A) (𝓜 .mem) (𝓡 .run)) 𝓜 𝓡 code.env #text·line line-def.routine code.calls-text·line (line-thm.met 𝓤 H 𝓜 𝓖 𝓡))
     (cited 𝓤 H (NextOf 𝓤 H (𝓖 .A) (𝓜 .mem) (𝓡 .run)) 𝓜 𝓡 code.env #text·next-of next-def.routine code.calls-text·next-of (next-thm.met 𝓤 H 𝓜 𝓖 𝓡))
     (cited 𝓤 H (Moved 𝓤 H (𝓖 .A) (𝓜 .mem) (𝓡 .run)) 𝓜 𝓡 code.env #text·moved moved-def.routine code.calls-text·moved (moved-thm.met 𝓤 H 𝓜 𝓖 𝓡))
-    (cited 𝓤 H (RulesOf 𝓤 H (𝓖 .A) (𝓜 .mem) (𝓡 .run)) 𝓜 𝓡 code.env #parse·rule-lines·rules rules-def.routine code.calls-parse·rule-lines·rules (rules-thm.met 𝓤 H 𝓜 𝓖 𝓡))
+    (cited 𝓤 H (RulesOf 𝓤 H (𝓖 .A) (𝓜 .mem) (𝓡 .run)) 𝓜 𝓡 code.env #rule-lines·rules rules-def.routine code.calls-rule-lines·rules (rules-thm.met 𝓤 H 𝓜 𝓖 𝓡))
     (cited 𝓤 H (PointsOf 𝓤 H (𝓖 .A) (𝓜 .mem) (𝓡 .run)) 𝓜 𝓡 code.env #parse·point-lines·points points-def.routine code.calls-parse·point-lines·points (points-thm.met 𝓤 H 𝓜 𝓖 𝓡)))

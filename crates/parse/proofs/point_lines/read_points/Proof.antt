@@ -5,7 +5,7 @@ use mathlib.Core.Path.{sym, _∙_}
 use native.Mathlib.Omega.{arith}
 use lib.ListN.{length}
 use Rattle.text.specs.LineLaws.{point-ahead}
-use Rattle.parse.specs.ElseLaws.{else-point}
+use Rattle.rule_lines.specs.ElseLaws.{else-point}
 use Rattle.parse.proofs.PointTurns.{PointsUpTo, points-start, points-more, points-done}
 use Rattle.parse.proofs.point_lines.read_points.Statement.{statement}
 use Rattle.parse.proofs.point_lines.read_points.Tie as tie

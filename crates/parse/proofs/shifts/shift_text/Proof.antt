@@ -4,7 +4,7 @@ use mathlib.Core.Path.{_≡_, sym, _∙_}
 use native.Mathlib.Omega.{arith}
 use mir.Val.{toZ, ofZ}
 use mir.Syntax.{w32}
-use Rattle.parse.specs.ElseLaws.{else-shift}
+use Rattle.rule_lines.specs.ElseLaws.{else-shift}
 use Rattle.parse.proofs.PartCases.{first-is}
 use Rattle.parse.proofs.ShiftCases.{too-long, other-first, goes-on, whole}
 use Rattle.parse.proofs.shifts.shift_text.Statement.{statement}

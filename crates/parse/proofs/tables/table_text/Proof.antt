@@ -2,7 +2,7 @@
 use borrow.Author.Needs.{needs}
 use mathlib.Core.Path.{sym, _∙_}
 use native.Mathlib.Omega.{arith}
-use Rattle.parse.specs.ElseLaws.{else-weights, else-horizon}
+use Rattle.rule_lines.specs.ElseLaws.{else-weights, else-horizon}
 use Rattle.parse.proofs.PartCases.{first-is, rules-are, last-is}
 use Rattle.parse.proofs.TableCases.{too-long, other-first, refused-rule, line-fits, other-last, goes-on, whole}
 use Rattle.parse.proofs.tables.table_text.Statement.{statement}

@@ -3,9 +3,9 @@ use mathlib.Core.Path.{_≡_, refl, sym, _∙_}
 use native.Mathlib.Omega.{arith}
 use denote.Enum.Declared.{tagOf}
 use borrow.Author.Needs.{needs}
-use Rattle.monitor.specs.declared.Move.{Move}
-use Rattle.monitor.specs.declared.Move.the-variants.{Quiet, Signal}
-use Rattle.monitor.proofs.Move.{the-type}
+use Rattle.window.specs.declared.Move.{Move}
+use Rattle.window.specs.declared.Move.the-variants.{Quiet, Signal}
+use Rattle.window.proofs.Move.{the-type}
 use Rattle.states.specs.ExploreLaws.{place-small}
 use Rattle.states.specs.VisitLaws.{visit-signal, visit-known, visit-new, visit-over}
 use Rattle.states.proofs.worklist.visit.Statement.{statement}

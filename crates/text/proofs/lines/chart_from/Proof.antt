@@ -4,7 +4,7 @@ use mathlib.Core.Path.{_≡_, sym, _∙_}
 use mir.Syntax.{w32}
 use mir.Val.{toZ, ofZ}
 use Rattle.text.specs.Line.{chartFrom}
-use Rattle.text.proofs.On.{found, absent, number, no-number, signed, no-signed}
+use Rattle.decimal.specs.OnLaws.{found, absent, number, no-number, signed, no-signed}
 use Rattle.text.proofs.lines.chart_from.Statement.{statement}
 use Rattle.text.proofs.lines.chart_from.Tie as tie
 

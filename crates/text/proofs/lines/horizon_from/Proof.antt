@@ -2,7 +2,7 @@
 use borrow.Author.Needs.{needs}
 use mathlib.Core.Path.{sym, _∙_}
 use Rattle.text.specs.Line.{horizonFrom}
-use Rattle.text.proofs.On.{found, absent, number, no-number}
+use Rattle.decimal.specs.OnLaws.{found, absent, number, no-number}
 use Rattle.text.proofs.lines.horizon_from.Statement.{statement}
 use Rattle.text.proofs.lines.horizon_from.Tie as tie
 

@@ -4,7 +4,7 @@ use mathlib.Core.Path.{_≡_, sym, _∙_}
 use mir.Syntax.{w32}
 use mir.Val.{toZ, ofZ}
 use Rattle.text.specs.Line.{pointFrom}
-use Rattle.text.proofs.On.{number, no-number, signed, no-signed}
+use Rattle.decimal.specs.OnLaws.{number, no-number, signed, no-signed}
 use Rattle.text.proofs.lines.point_from.Statement.{statement}
 use Rattle.text.proofs.lines.point_from.Tie as tie
 

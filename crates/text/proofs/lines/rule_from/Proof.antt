@@ -2,7 +2,7 @@
 use borrow.Author.Needs.{needs}
 use mathlib.Core.Path.{sym, _∙_}
 use Rattle.text.specs.Line.{ruleFrom}
-use Rattle.text.proofs.On.{found, absent, number, no-number}
+use Rattle.decimal.specs.OnLaws.{found, absent, number, no-number}
 use Rattle.text.proofs.lines.rule_from.Statement.{statement}
 use Rattle.text.proofs.lines.rule_from.Tie as tie
 

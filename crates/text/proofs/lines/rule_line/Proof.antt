@@ -9,7 +9,7 @@ use Rattle.text.specs.declared.lines.RuleLine.{RuleLine}
 use Rattle.text.specs.Kind.{rule, NotOf, tagsBut}
 use Rattle.text.specs.KindLaws.{rule-or-none, rule-passed}
 use Rattle.text.specs.Line.{ruleLineAt}
-use Rattle.text.proofs.On.{found, absent}
+use Rattle.decimal.specs.OnLaws.{found, absent}
 use Rattle.text.proofs.lines.Line.{the-type}
 use Rattle.text.proofs.lines.rule_line.Statement.{statement}
 use Rattle.text.proofs.lines.rule_line.Tie as tie

@@ -4,7 +4,7 @@ use mathlib.Core.Path.{_≡_, sym, _∙_}
 use mir.Syntax.{w32}
 use mir.Val.{toZ, ofZ}
 use Rattle.text.specs.Line.{shiftFrom}
-use Rattle.text.proofs.On.{signed, no-signed}
+use Rattle.decimal.specs.OnLaws.{signed, no-signed}
 use Rattle.text.proofs.lines.shift_from.Statement.{statement}
 use Rattle.text.proofs.lines.shift_from.Tie as tie
 

@@ -1,0 +1,4 @@
+-- What the exported functions' codes say: definitions, laws, claims.
+pub mod Coded
+pub mod CodedLaws
+pub mod Exported

@@ -1,0 +1,2 @@
+-- Codes and rule lists as callers pass them: definitions.
+pub mod Codes

@@ -1,0 +1,4 @@
+mod Digit
+mod Letter
+mod Minus
+mod Sign

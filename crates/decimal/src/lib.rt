@@ -1,0 +1,12 @@
+// Words, numbers and signed numbers at an offset of a text, in decimal.
+mod number;
+mod signed;
+mod word;
+
+pub use number::Number;
+pub use number::field;
+pub use signed::Signed;
+pub use signed::signed_end;
+pub use signed::signed_field;
+pub use word::Found;
+pub use word::past;

@@ -1,0 +1,1 @@
+// What the monitor program prints for every text, from bytes to bytes: definitions, laws and claims only, in specs/. Nothing here runs.

@@ -1,0 +1,10 @@
+-- What the monitor program prints, in terms of the text that it is given.
+pub mod MonitorLines
+pub mod Points
+pub mod Nodes
+pub mod NodesLaws
+pub mod TotalsWritten
+pub mod BenchWritten
+pub mod PointsLaws
+pub mod MonitorReport
+pub mod MonitorReportLaws

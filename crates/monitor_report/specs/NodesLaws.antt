@@ -1,0 +1,129 @@
+-- Laws of a node: one point more; its monitor can be given; its counts stay small; its total.
+use Prim.Native.Nat.{ℕ, _+_, _≤_}
+use mathlib.Core.Path.{_≡_, refl, ap, _∙_}
+use mathlib.Core.Bool.{Bool, true, false, cond}
+use mathlib.Core.List.{List, [], _∷_, _++_}
+use native.Mathlib.Omega.{arith}
+use lib.Dec.{eqb}
+use lib.ListN.{length, length-append}
+use borrow.Author.Tests.{ne-eqb}
+use Rattle.rules.specs.declared.Rule.{Rule}
+use Rattle.rules.specs.Bounds.{zoneCount}
+use Rattle.rules.specs.InBounds.{AllInBounds}
+use Rattle.runlength.specs.Sequence.{AllBelow}
+use Rattle.monitor.specs.declared.Monitor.{Monitor}
+use Rattle.window.specs.State.{validState, stateMask, nextState}
+use Rattle.monitor.specs.Step.{monitorAt, freshMonitor}
+use Rattle.window.specs.ReferenceChart.{Answer, quiet, signal}
+use Rattle.monitor.specs.Take.{takenOf, maskAnswer, takenAnswers}
+use Rattle.monitor.specs.TakeLaws.{taken-valid}
+use Rattle.window.specs.GivenLaws.{fresh-valid}
+use Rattle.monitor_report.specs.Points.{oneSignal, signalsIn, nodeTotal}
+use Rattle.monitor_report.specs.Nodes.{nodeTaken, takenAfter, nodeAfter, totalOf}
+
+-- ---- one point more
+
+pub after-more : (rs : List Rule) (m : Monitor) (zs : List ℕ) (z : ℕ) → takenAfter rs m (zs ++ (z ∷ [])) ≡ takenOf rs (takenAfter rs m zs) z .next
+unfolding takenAfter
+after-more rs m [] z = refl
+after-more rs m (y ∷ zs) z = after-more rs (takenOf rs m y .next) zs z
+
+-- the answer to the point behind those in zs
+abbrev pub answerAfter : List Rule → Monitor → List ℕ → ℕ → Answer
+answerAfter rs m zs z = maskAnswer (takenOf rs (takenAfter rs m zs) z .mask) (takenAfter rs m zs .count + 1)
+
+pub answers-more : (rs : List Rule) (m : Monitor) (zs : List ℕ) (z : ℕ)
+    → takenAnswers rs m (zs ++ (z ∷ [])) ≡ takenAnswers rs m zs ++ (answerAfter rs m zs z ∷ [])
+unfolding takenAfter takenAnswers
+answers-more rs m [] z = refl
+answers-more rs m (y ∷ zs) z =
+    ap (λ (t : List Answer). maskAnswer (takenOf rs m y .mask) (m .count + 1) ∷ t) (answers-more rs (takenOf rs m y .next) zs z)
+
+pub answers-length : (rs : List Rule) (m : Monitor) (zs : List ℕ) → length (takenAnswers rs m zs) ≡ length zs
+unfolding takenAnswers
+answers-length rs m [] = refl
+answers-length rs m (z ∷ zs) = omega (arith, answers-length rs (takenOf rs m z .next) zs)
+
+signals-more : (answers : List Answer) (a : Answer) → signalsIn (answers ++ (a ∷ [])) ≡ signalsIn answers + oneSignal a
+unfolding signalsIn
+signals-more [] a = omega arith
+signals-more (x ∷ rest) a = omega (arith, signals-more rest a)
+
+-- a mask says whether its answer is a signal
+mask-signal : (mask count : ℕ) → oneSignal (maskAnswer mask count) ≡ cond (eqb mask 0) 0 1
+mask-signal mask count = go (eqb mask 0)
+  where
+    go : (b : Bool) → oneSignal (cond b (quiet count) (signal count mask)) ≡ cond b 0 1
+    go true = refl
+    go false = refl
+
+pub signal-le : (mask : ℕ) → cond (eqb mask 0) 0 1 ≤ 1
+signal-le mask = go (eqb mask 0)
+  where
+    go : (b : Bool) → cond b 0 1 ≤ 1
+    go true = omega arith
+    go false = omega arith
+
+-- the node behind one point more is what the point does to it
+pub node-more : (rs : List Rule) (zs : List ℕ) (z : ℕ) → nodeAfter rs (zs ++ (z ∷ [])) ≡ nodeTaken rs (nodeAfter rs zs) z .next
+unfolding nodeAfter nodeTaken
+node-more rs zs z =
+    let m = takenAfter rs freshMonitor zs in
+    let points : length (zs ++ (z ∷ [])) ≡ length zs + 1 = length-append zs (z ∷ []) in
+    let before = takenAnswers rs freshMonitor zs in
+    let signals : signalsIn (takenAnswers rs freshMonitor (zs ++ (z ∷ []))) ≡ signalsIn before + cond (eqb (takenOf rs m z .mask) 0) 0 1 =
+    ap signalsIn (answers-more rs freshMonitor zs z) ∙ signals-more before (answerAfter rs freshMonitor zs z)
+    ∙ ap (λ n. signalsIn before + n) (mask-signal (takenOf rs m z .mask) (m .count + 1)) in
+    rw (after-more rs freshMonitor zs z, points, signals)
+
+-- ---- a node's monitor can be given, and its counts are at most the number of its points
+
+after-valid : (rs : List Rule) → AllInBounds rs → (m : Monitor) → validState (m .count) rs (m .state) ≡ true → (zs : List ℕ) → AllBelow zoneCount zs
+    → validState (takenAfter rs m zs .count) rs (takenAfter rs m zs .state) ≡ true
+unfolding takenAfter AllBelow
+after-valid rs p m v [] b = v
+after-valid rs p m v (z ∷ zs) b = after-valid rs p (takenOf rs m z .next) (taken-valid rs p m z (b .0) v) zs (b .1)
+
+count-le : (rs : List Rule) (m : Monitor) (z : ℕ) → takenOf rs m z .next .count ≤ m .count + 1
+unfolding takenOf
+count-le rs m z = go (eqb (stateMask rs (m .state) z) 0)
+  where
+    go : (b : Bool) → cond b (monitorAt (nextState rs (m .state) z) (m .count + 1)) freshMonitor .count ≤ m .count + 1
+    go true = omega arith
+    go false = omega arith
+
+after-count : (rs : List Rule) (m : Monitor) (zs : List ℕ) → takenAfter rs m zs .count ≤ m .count + length zs
+unfolding takenAfter
+after-count rs m [] = omega arith
+after-count rs m (z ∷ zs) = omega (arith, after-count rs (takenOf rs m z .next) zs, count-le rs m z)
+
+one-signal-le : (a : Answer) → oneSignal a ≤ 1
+one-signal-le (Answer.refused n) = omega arith
+one-signal-le (quiet n) = omega arith
+one-signal-le (signal n mask) = omega arith
+
+pub signals-le : (answers : List Answer) → signalsIn answers ≤ length answers
+unfolding signalsIn
+signals-le [] = omega arith
+signals-le (a ∷ rest) = omega (arith, one-signal-le a, signals-le rest)
+
+module _ (rs : List Rule) (zs : List ℕ) where
+  pub node-valid : AllInBounds rs → AllBelow zoneCount zs → validState (nodeAfter rs zs .monitor .count) rs (nodeAfter rs zs .monitor .state) ≡ true
+  unfolding nodeAfter
+  node-valid p b = after-valid rs p freshMonitor (fresh-valid rs p) zs b
+
+  pub node-small : (nodeAfter rs zs .monitor .count ≤ length zs) × (nodeAfter rs zs .points ≤ length zs) × (nodeAfter rs zs .signals ≤ length zs)
+  unfolding nodeAfter
+  node-small =
+      let answers = takenAnswers rs freshMonitor zs in
+      (omega (arith, after-count rs freshMonitor zs), omega arith, omega (arith, signals-le answers, answers-length rs freshMonitor zs))
+
+  -- its total is that of its answers
+  pub node-total : (k : ℕ) → totalOf k (nodeAfter rs zs) ≡ nodeTotal k (takenAnswers rs freshMonitor zs)
+  unfolding nodeAfter
+  node-total k = go (takenAnswers rs freshMonitor zs) (answers-length rs freshMonitor zs)
+    where
+      go : (answers : List Answer) → length answers ≡ length zs
+          → cond (eqb (length zs) 0) [] (record { node = k; points = length zs; signals = signalsIn answers } ∷ []) ≡ nodeTotal k answers
+      go [] e = rw (← e)
+      go (a ∷ rest) e = rw (← e, ne-eqb (length (a ∷ rest)) 0 (λ q. omega arith))

@@ -1,0 +1,60 @@
+// The monitor program's lines: one for each point, and one for each node.
+use write::put_byte;
+use write::put_short_field;
+use write::put_short_named;
+ghost use Prim.Native.Nat.{_+_, _≤_};
+ghost use lib.ListN.{length};
+ghost use Rattle.write.specs.Wrote.{Wrote};
+ghost use Rattle.monitor_report.specs.MonitorLines.{pointLine, pointRoom, totalLine, totalRoom};
+
+// `signal`, four fields of 32 bits, LF: the longest line of a point.
+pub const POINT_ROOM: usize = 6 + 4 * write::SHORT_FIELD + 1;
+
+// `total`, three fields of 32 bits, LF.
+pub const TOTAL_ROOM: usize = 5 + 3 * write::SHORT_FIELD + 1;
+
+// What a point's line says: its node, its count since the node's last clearing, the mask of the rules that hold (0: quiet), its period.
+pub struct PointLine {
+    pub node: u32,
+    pub count: u32,
+    pub mask: u32,
+    pub period: u32,
+}
+
+// The line `quiet,node,n,period` or `signal,node,n,mask,period`.
+pub fn put_point(out: &mut [u8], at: usize, line: PointLine) -> usize
+    requires { ⌜ at + pointRoom ≤ length (now out) ⌝ }
+    ensures { λ r. ⌜ Wrote (now (out .entry)) at (now (out .exit)) r (pointLine line) ⌝ }
+    ensures { λ r. ⌜ r ≤ at + pointRoom ⌝ }
+{
+    if line.mask == 0 {
+        let a = put_short_named(out, at, b"quiet", line.node);
+        let b = put_short_field(out, a, line.count);
+        let e = put_short_field(out, b, line.period);
+        return put_byte(out, e, b'\n');
+    }
+    let a = put_short_named(out, at, b"signal", line.node);
+    let b = put_short_field(out, a, line.count);
+    let e = put_short_field(out, b, line.mask);
+    let f = put_short_field(out, e, line.period);
+    put_byte(out, f, b'\n')
+}
+
+// What a node's last line says: the node, its points and its signals.
+pub struct TotalLine {
+    pub node: u32,
+    pub points: u32,
+    pub signals: u32,
+}
+
+// The line `total,node,points,signals`.
+pub fn put_total(out: &mut [u8], at: usize, line: TotalLine) -> usize
+    requires { ⌜ at + totalRoom ≤ length (now out) ⌝ }
+    ensures { λ r. ⌜ Wrote (now (out .entry)) at (now (out .exit)) r (totalLine (line .node) (line .points) (line .signals)) ⌝ }
+    ensures { λ r. ⌜ r ≤ at + totalRoom ⌝ }
+{
+    let a = put_short_named(out, at, b"total", line.node);
+    let b = put_short_field(out, a, line.points);
+    let e = put_short_field(out, b, line.signals);
+    put_byte(out, e, b'\n')
+}

@@ -1,0 +1,113 @@
+// One core of the bench: its monitor, its points and its signals; and the last lines, one for each node that has points.
+use crate::TotalLine;
+use crate::put_total;
+use monitor::Monitor;
+use parse::NODES;
+use rules::RuleList;
+ghost use mathlib.Core.Path.{_≡_};
+ghost use mathlib.Core.Bool.{true, cond};
+ghost use Prim.Native.Nat.{_+_, _*_, _<_, _≤_};
+ghost use lib.Dec.{eqb};
+ghost use lib.ListN.{length};
+ghost use Rattle.rules.specs.Bounds.{zoneCount, maxRules, maxNumber};
+ghost use Rattle.rules.specs.Check.{activeRules};
+ghost use Rattle.rules.specs.InBounds.{AllInBounds};
+ghost use Rattle.window.specs.State.{validState};
+ghost use Rattle.write.specs.Wrote.{Wrote};
+ghost use Rattle.parse.specs.Readings.{nodeCount};
+ghost use Rattle.monitor_report.specs.MonitorLines.{totalRoom};
+ghost use Rattle.monitor_report.specs.Points.{totalLines};
+ghost use Rattle.monitor_report.specs.Nodes.{freshNode, nodeTaken, totalOf, totalsOf};
+
+// What is kept of a node: its monitor, and how many points and signals it had.
+pub(crate) struct Node {
+    pub(crate) monitor: Monitor,
+    pub(crate) points: u32,
+    pub(crate) signals: u32,
+}
+
+// What a point does to its node: its count, the mask of all rules that hold, 0 for quiet, its period, and the node behind it.
+pub(crate) struct NodePoint {
+    pub(crate) count: u32,
+    pub(crate) mask: u32,
+    pub(crate) period: u32,
+    pub(crate) next: Node,
+}
+
+// A node with no points.
+pub(crate) fn fresh_node() -> Node
+    ensures { λ r. ⌜ r ≡ freshNode ⌝ }
+{
+    Node {
+        monitor: Monitor::fresh(),
+        points: 0,
+        signals: 0,
+    }
+}
+
+// 1 for a signal, else 0.
+fn one_signal(mask: u32) -> u32
+    ensures { λ r. ⌜ r ≡ cond (eqb mask 0) 0 1 ⌝ }
+{
+    if mask == 0 { 0 } else { 1 }
+}
+
+// A node's next point.
+pub(crate) fn chart_point(node: Node, list: RuleList, zone: u32) -> NodePoint
+    requires { ⌜ (list .len ≤ maxRules) × AllInBounds (activeRules list) × (zone < zoneCount) ⌝ }
+    requires { ⌜ (node .monitor .count < maxNumber) × (node .points < maxNumber) × (node .signals < maxNumber) ⌝ }
+    requires { ⌜ validState (node .monitor .count) (activeRules list) (node .monitor .state) ≡ true ⌝ }
+    ensures { λ r. ⌜ r ≡ nodeTaken (activeRules list) node zone ⌝ }
+{
+    let monitor = node.monitor;
+    let count = monitor.count + 1;
+    let taken = monitor.take(list, zone);
+    let mask = taken.mask;
+    let next = taken.next;
+    let points = node.points + 1;
+    let signals = node.signals + one_signal(mask);
+    NodePoint {
+        count,
+        mask,
+        period: points,
+        next: Node {
+            monitor: next,
+            points,
+            signals,
+        },
+    }
+}
+
+// The total of node number k: no line where it has no points.
+fn put_node(out: &mut [u8], at: usize, k: u32, node: Node) -> usize
+    requires { ⌜ at + totalRoom ≤ length (now out) ⌝ }
+    ensures { λ r. ⌜ Wrote (now (out .entry)) at (now (out .exit)) r (totalLines (totalOf k node)) ⌝ }
+    ensures { λ r. ⌜ r ≤ at + totalRoom ⌝ }
+{
+    if node.points == 0 {
+        return at;
+    }
+    put_total(
+        out,
+        at,
+        TotalLine {
+            node: k,
+            points: node.points,
+            signals: node.signals,
+        },
+    )
+}
+
+// The totals of the nodes, in their order.
+pub(crate) fn put_totals(out: &mut [u8], at: usize, nodes: [Node; NODES as usize]) -> usize
+    requires { ⌜ at + totalRoom * nodeCount ≤ length (now out) ⌝ }
+    ensures { λ r. ⌜ Wrote (now (out .entry)) at (now (out .exit)) r (totalLines (totalsOf nodes nodeCount)) ⌝ }
+{
+    let mut end = at;
+    let mut k: u32 = 0;
+    while k < NODES {
+        end = put_node(out, end, k, nodes[k as usize]);
+        k += 1;
+    }
+    end
+}

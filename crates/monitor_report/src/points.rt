@@ -1,0 +1,70 @@
+// The lines of a text's points, read again one by one, each charted by the monitor of its node.
+use crate::PointLine;
+use crate::nodes::chart_point;
+use crate::nodes::fresh_node;
+use crate::nodes::put_totals;
+use crate::put_point;
+use monitor::Chart;
+use monitor::zone::zone_at;
+use parse::NODES;
+use rules::RuleList;
+use text::Line;
+use text::line_at;
+ghost use Prim.Native.Nat.{_+_, _*_, _≤_};
+ghost use lib.ListN.{length};
+ghost use Rattle.rules.specs.Bounds.{maxRules};
+ghost use Rattle.rules.specs.Check.{activeRules};
+ghost use Rattle.rules.specs.InBounds.{AllInBounds};
+ghost use Rattle.monitor.specs.Zone.{minSigma, maxSigma};
+ghost use Rattle.write.specs.Wrote.{Wrote};
+ghost use Rattle.text.specs.Size.{maxText};
+ghost use Rattle.parse.specs.Readings.{pointsAt, nodeCount, OnBench};
+ghost use Rattle.monitor_report.specs.MonitorLines.{pointRoom, totalRoom};
+ghost use Rattle.monitor_report.specs.Points.{benchBytes};
+ghost use Rattle.monitor_report.specs.Nodes.{takenChart};
+
+// The lines of the points from `at` on, and the nodes' totals, from the buffer's start.
+pub(crate) fn put_points(
+    out: &mut [u8],
+    text: &[u8],
+    at: usize,
+    list: RuleList,
+    chart: Chart,
+) -> usize
+    requires { ⌜ (list .len ≤ maxRules) × AllInBounds (activeRules list) ⌝ }
+    requires { ⌜ (minSigma ≤ chart .sigma) × (chart .sigma ≤ maxSigma) ⌝ }
+    requires { ⌜ length (now text) ≤ maxText ⌝ }
+    requires { ⌜ OnBench (pointsAt (length (now text)) (now text) at) ⌝ }
+    requires { ⌜ pointRoom * length (pointsAt (length (now text)) (now text) at) + totalRoom * nodeCount ≤ length (now out) ⌝ }
+    ensures { λ r. ⌜ Wrote (now (out .entry)) 0 (now (out .exit)) r
+        (benchBytes (takenChart (activeRules list) (chart .centre) (chart .sigma)) (pointsAt (length (now (text .entry))) (now (text .entry)) at)) ⌝ }
+{
+    let mut nodes = [fresh_node(); NODES as usize];
+    let mut i = at;
+    let mut end = 0;
+    loop {
+        let Line::Point {
+            node,
+            reading,
+            next,
+        } = line_at(text, i)
+        else {
+            return put_totals(out, end, nodes);
+        };
+        let zone = zone_at(reading, chart.centre, chart.sigma);
+        let point = chart_point(nodes[node as usize], list, zone);
+        let count = point.count;
+        let mask = point.mask;
+        let period = point.period;
+        let line = PointLine {
+            node,
+            count,
+            mask,
+            period,
+        };
+        end = put_point(out, end, line);
+        let next_node = point.next;
+        nodes[node as usize] = next_node;
+        i = next;
+    }
+}

@@ -1,0 +1,2 @@
+-- The plot record as two arrays: definitions.
+pub mod PlotArrays

@@ -1,1 +1,0 @@
-// What the programs print for every text, from bytes to bytes: definitions, laws and claims only, in specs/. Nothing here runs.

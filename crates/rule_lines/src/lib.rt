@@ -1,0 +1,6 @@
+// The rule lines of a text.
+mod rule_lines;
+
+pub use rule_lines::RulesRead;
+pub use rule_lines::no_rules;
+pub use rule_lines::rules;

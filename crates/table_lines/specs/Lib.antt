@@ -1,0 +1,7 @@
+-- The table program's lines: definitions and laws.
+pub mod RowLine
+pub mod Rowed
+pub mod RowLineLaws
+pub mod PercentLine
+pub mod PercentLineLaws
+pub mod TableLines

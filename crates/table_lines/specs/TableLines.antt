@@ -1,0 +1,23 @@
+-- TO BELIEVE: all that the table program prints. Definitions.
+use Prim.Native.Nat.{ℕ, _+_, _*_}
+use mathlib.Core.List.{List, _++_}
+use Rattle.summary.specs.declared.Summary.{Summary}
+use Rattle.table_lines.specs.RowLine.{standingsLine, standingsRoom, headerLine, headerRoom, rowRoom, tableRows, arlLine, arlRoom}
+use Rattle.table_lines.specs.PercentLine.{percentLines, percentsRoom}
+
+-- N standings, h rows of the chances and of what is left, the mean's whole part and fraction with its error bound, the five percentiles
+unfoldable pub tableBytes : Summary → ℕ → List ℕ → List ℕ → List ℕ
+tableBytes s h pmf survival =
+    standingsLine (s .figures .«state_count»)
+    ++ headerLine
+    ++ tableRows h pmf survival
+    ++ arlLine (s .figures .«mean_whole») (s .figures .«mean_fraction») (s .«error_bound»)
+    ++ percentLines s
+
+-- the program's largest horizon
+abbrev pub maxRows : ℕ
+maxRows = 4096
+
+-- the most bytes
+abbrev pub tableRoom : ℕ
+tableRoom = standingsRoom + headerRoom + rowRoom * maxRows + arlRoom + percentsRoom

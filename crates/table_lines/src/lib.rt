@@ -1,0 +1,10 @@
+// The table program's lines, written into a lent buffer at an offset.
+// For the crates of this repository, which see to the room: hence each `requires`.
+mod percents;
+mod rooms;
+mod rows;
+mod tables;
+
+pub use rooms::MAX_ROWS;
+pub use rooms::TABLE_ROOM;
+pub use tables::put_table;

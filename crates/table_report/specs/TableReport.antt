@@ -1,0 +1,40 @@
+-- TO BELIEVE: what the table program prints for a text. Definitions.
+use Prim.Native.Nat.{ℕ}
+use mathlib.Core.Bool.{cond}
+use mathlib.Core.List.{List}
+use lib.Dec.{leb, eqb}
+use lib.ListN.{replicate}
+use Rattle.table.specs.Table.{TableCall, tableCall}
+use Rattle.summary.specs.declared.SummaryAnswer.{SummaryAnswer}
+use Rattle.summary.specs.Summary.{SummaryResult, summaryOf}
+use Rattle.parse.specs.declared.tables.TableText.{TableText}
+use Rattle.parse.specs.TableText.{tableText}
+use Rattle.table_lines.specs.TableLines.{tableBytes, maxRows}
+use Rattle.write.specs.Printed.{Printed, lines, refusedBy}
+
+-- the program takes a horizon up to 4,096; a larger one is refused by 9, in 9's place, as 0 is
+abbrev pub reportHorizon : ℕ → ℕ
+reportHorizon h = cond (leb h maxRows) h 0
+
+-- an empty list of the program's largest horizon
+unfoldable pub blank : List ℕ
+blank = replicate maxRows 0
+
+-- the table of what was read: its rules, weights and horizon, with two such lists
+abbrev pub reportCall : TableText → TableCall
+reportCall t = tableCall (t .list) (t .weights) (reportHorizon (t .horizon)) blank blank
+
+-- the table's lines, or its refusal
+abbrev pub tableLines : SummaryAnswer → ℕ → List ℕ → List ℕ → Printed
+tableLines (SummaryAnswer.Accepted s) h pmf survival = lines (tableBytes s h pmf survival)
+tableLines (SummaryAnswer.Refused x) h pmf survival = refusedBy x
+
+abbrev pub linesOf : SummaryResult → ℕ → Printed
+linesOf r h = tableLines (r .answer) h (r .pmfList) (r .survivalList)
+
+-- what was read: a refusal of the text, or the table
+unfoldable pub tablePrinted : List ℕ → Printed
+tablePrinted s =
+    cond (eqb (tableText s .refusal .number) 0)
+    (linesOf (summaryOf (reportCall (tableText s))) (reportHorizon (tableText s .horizon)))
+    (refusedBy (tableText s .refusal))

@@ -1,0 +1,57 @@
+-- `print::put_fields` meets its contract. The invariant is `Fielded`: the fields of the first i numbers are written.
+use borrow.Author.Needs.{needs}
+use Prim.Native.Nat.{_-_}
+use native.Mathlib.Omega.{arith}
+use lib.ListN.{length}
+use Rattle.weights_report.specs.Fielded.{Fielded, fielded-start, fielded-more, fielded-done}
+use Rattle.weights_report.proofs.weight_line.put_fields.Statement.{statement}
+use Rattle.weights_report.proofs.weight_line.put_fields.Tie as tie
+
+abbrev Inv-loop : tie.InvT-loop
+Inv-loop out₀ at numbers e₀ i₀ out e i = Fielded out₀ at numbers out e i
+
+abbrev μ-loop : tie.MeasureT-loop
+μ-loop out₀ at numbers e₀ i₀ out e i = length numbers - i
+
+loop-holds : tie.Need-loop-holds Inv-loop μ-loop
+loop-holds c = fielded-start (omega arith)
+
+mul-put-short-field : tie.Need-mul-put-short-field Inv-loop μ-loop
+mul-put-short-field c = search needs
+
+shared-slice-read-put-short-field : tie.Need-shared-slice-read-put-short-field Inv-loop μ-loop
+shared-slice-read-put-short-field c = search needs
+
+put-short-field-requires : tie.Need-put-short-field-requires Inv-loop μ-loop
+put-short-field-requires c κs = search needs
+
+add-i : tie.Need-add-i Inv-loop μ-loop
+add-i c = search needs
+
+loop-less : tie.Need-loop-less Inv-loop μ-loop
+loop-less c = search needs
+
+loop-again : tie.Need-loop-again Inv-loop μ-loop
+loop-again c = search fielded-more
+
+same-length : tie.Need-same-length Inv-loop μ-loop
+same-length c = search needs
+
+returns : tie.Need-returns Inv-loop μ-loop
+returns c = (search fielded-done, omega arith)
+
+pub put-fields-spec : {M : Type 1} → statement M
+put-fields-spec =
+    tie.close
+    (tie.spec
+    Inv-loop
+    μ-loop
+    loop-holds
+    mul-put-short-field
+    shared-slice-read-put-short-field
+    put-short-field-requires
+    add-i
+    loop-less
+    loop-again
+    same-length
+    returns)

@@ -1,0 +1,4 @@
+-- What the weights program prints, in terms of the text that it is given.
+pub mod WeightLine
+pub mod Fielded
+pub mod WeightsReport

@@ -1,0 +1,25 @@
+-- TO BELIEVE: what the weights program prints for a text. Definitions.
+use Prim.Native.Nat.{ℕ}
+use mathlib.Core.List.{List}
+use Rattle.shift.specs.declared.ShiftAnswer.{ShiftAnswer}
+use Rattle.shift.specs.Shift.{shiftOf}
+use Rattle.parse.specs.declared.shifts.ShiftText.{ShiftText}
+use Rattle.parse.specs.ShiftText.{shiftText}
+use Rattle.weights_report.specs.WeightLine.{weightLine}
+use Rattle.write.specs.Printed.{Printed, lines, refusedBy}
+
+-- the operation on what was read: the text's refusal, 17 or 16, comes before its own, 18
+abbrev pub shiftBy : ShiftText → ShiftAnswer
+shiftBy (ShiftText.Given s) = shiftOf s
+shiftBy (ShiftText.Refused x) = ShiftAnswer.Refused x
+
+unfoldable pub textWeights : List ℕ → ShiftAnswer
+textWeights s = shiftBy (shiftText s)
+
+-- the weights' line, or the refusal
+abbrev pub weightsBy : ShiftAnswer → Printed
+weightsBy (ShiftAnswer.Accepted w) = lines (weightLine w)
+weightsBy (ShiftAnswer.Refused x) = refusedBy x
+
+unfoldable pub weightsPrinted : List ℕ → Printed
+weightsPrinted s = weightsBy (textWeights s)

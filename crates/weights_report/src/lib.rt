@@ -1,0 +1,11 @@
+// The weights program: its line, and what it prints for a text.
+mod weight_line;
+mod weights;
+
+pub use weight_line::WEIGHTS_ROOM;
+pub use weight_line::put_weights;
+pub use weights::weights_output;
+pub use weights::weights_report;
+
+// Room for the weights program's line.
+pub const WEIGHTS_SIZE: usize = crate::WEIGHTS_ROOM;

@@ -1,0 +1,74 @@
+-- What is written stands in the buffer; and a report from what was written.
+use mathlib.Core.Path.{_≡_, sym, ap, _∙_}
+use mathlib.Core.List.{List, _++_}
+use Prim.Native.Nat.{ℕ, _+_, _≤_}
+use native.Mathlib.Omega.{arith}
+use lib.ListN.{length, drop, length-append}
+use lib.Seq.{length-take-le}
+use Rattle.rules.specs.declared.refusal.Refusal.{Refusal}
+use Rattle.write.specs.Wrote.{Wrote}
+use Rattle.write.specs.declared.ReportAnswer.{ReportAnswer}
+use Rattle.write.specs.declared.ReportAnswer.the-variants.{Written, Refused}
+use Rattle.write.specs.Refused.{refusedLine}
+use Rattle.write.specs.Printed.{Printed, lines, refusedBy, printedBytes, OutputIs, Report, report, reportOf}
+
+pub written-within : (p : Printed) (out out′ : List ℕ) (a : ReportAnswer) (n : ℕ) → report a out′ ≡ reportOf p out → a ≡ Written n → n ≤ length out′
+written-within (lines bytes) out out′ a n e q =
+    let answer : a ≡ Written (length bytes) = ap (λ (r : Report). r .answer) e in
+    let count : n ≡ length bytes = cc in
+    omega (arith, ap (λ (r : Report). length (r .buffer)) e, length-append bytes (drop (length bytes) out))
+written-within (refusedBy x) out out′ a n e q =
+    let answer : a ≡ Refused x = ap (λ (r : Report). r .answer) e in
+    let z : _≡_ {A = ℕ} 0 1 = cc in
+    absurd (omega arith)
+
+-- a refusal, or the lines and where they end
+pub as-refused : {p : Printed} (x : Refusal) (out : List ℕ) → p ≡ refusedBy x → report (Refused x) out ≡ reportOf p out
+as-refused x out e = sym (ap (λ (y : Printed). reportOf y out) e)
+
+pub as-written : {p : Printed} {bytes : List ℕ} (out out′ : List ℕ) (r : ℕ) → p ≡ lines bytes → Wrote out 0 out′ r bytes → report (Written r) out′ ≡ reportOf p out
+as-written {p} {bytes} out out′ r e w =
+    let n : 0 + length bytes ≡ length bytes = omega arith in
+    ap (λ (x : ℕ). report (Written x) out′) (w .end ∙ n)
+    ∙ ap (λ (y : List ℕ). report (Written (length bytes)) y) (w .whole ∙ ap (λ (k : ℕ). bytes ++ drop k out) n)
+    ∙ sym (ap (λ (y : Printed). reportOf y out) e)
+
+-- ---- all that a program writes: what a report wrote, or the line of its refusal
+
+output-is : {before after : List ℕ} {n : ℕ} {bytes : List ℕ} → n ≡ length bytes → after ≡ bytes ++ drop n before → OutputIs before after n bytes
+output-is {before} {after} {n} {bytes} c b =
+    let w : n ≤ length after = omega (arith, ap length b, length-append bytes (drop n before)) in
+    record { count = c; buffer = b; within = w; front = sym (length-take-le n after w) }
+
+module _ (p : Printed) {out out′ : List ℕ} {a : ReportAnswer} (e : report a out′ ≡ reportOf p out) where
+  pub output-written : {n : ℕ} → a ≡ Written n → OutputIs out out′ n (printedBytes p)
+  unfolding printedBytes
+  output-written {n} q = go p e
+    where
+      go : (p : Printed) → report a out′ ≡ reportOf p out → OutputIs out out′ n (printedBytes p)
+      go (lines bytes) e =
+          let answer : a ≡ Written (length bytes) = ap (λ (r : Report). r .answer) e in
+          let count : n ≡ length bytes = cc in
+          output-is count (rw count (ap (λ (r : Report). r .buffer) e))
+      go (refusedBy x) e =
+          let answer : a ≡ Refused x = ap (λ (r : Report). r .answer) e in
+          let z : _≡_ {A = ℕ} 0 1 = cc in
+          absurd (omega arith)
+
+  pub output-refused : {x : Refusal} {out″ : List ℕ} {r : ℕ} → a ≡ Refused x → Wrote out′ 0 out″ r (refusedLine (x .number) (x .place))
+      → OutputIs out out″ r (printedBytes p)
+  unfolding printedBytes
+  output-refused {x} {out″} {r} q w = go p e
+    where
+      go : (p : Printed) → report a out′ ≡ reportOf p out → OutputIs out out″ r (printedBytes p)
+      go (refusedBy y) e =
+          let answer : a ≡ Refused y = ap (λ (r : Report). r .answer) e in
+          let same : x ≡ y = cc in
+          let kept : out′ ≡ out = ap (λ (r : Report). r .buffer) e in
+          let count : r ≡ length (refusedLine (x .number) (x .place)) = omega (arith, w .end) in
+          let end : 0 + length (refusedLine (x .number) (x .place)) ≡ r = omega arith in
+          rw (← same) (output-is count (rw (← kept) (rw end at (w .whole))))
+      go (lines bytes) e =
+          let answer : a ≡ Written (length bytes) = ap (λ (r : Report). r .answer) e in
+          let z : _≡_ {A = ℕ} 0 1 = cc in
+          absurd (omega arith)

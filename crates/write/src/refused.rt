@@ -1,0 +1,20 @@
+// The line of a refused text.
+use crate::field::put_short_field;
+use crate::field::put_short_named;
+use crate::put_byte;
+use rules::Refusal;
+ghost use Prim.Native.Nat.{_+_, _≤_};
+ghost use lib.ListN.{length};
+ghost use Rattle.write.specs.Wrote.{Wrote};
+ghost use Rattle.write.specs.Refused.{refusedLine, refusedRoom};
+
+// The line `refused,number,place`.
+pub fn put_refused(out: &mut [u8], at: usize, refusal: Refusal) -> usize
+    requires { ⌜ at + refusedRoom ≤ length (now out) ⌝ }
+    ensures { λ r. ⌜ Wrote (now (out .entry)) at (now (out .exit)) r (refusedLine (refusal .number) (refusal .place)) ⌝ }
+    ensures { λ r. ⌜ r ≤ at + refusedRoom ⌝ }
+{
+    let a = put_short_named(out, at, b"refused", refusal.number);
+    let b = put_short_field(out, a, refusal.place);
+    put_byte(out, b, b'\n')
+}
