@@ -1,15 +1,14 @@
 -- The cases of a signed number: the byte b at i is a minus or not, and the number behind it.
-use Prim.Native.Nat.{ℕ, _+_, _-_, _<_, _≤_}
+use Prim.Native.Nat.{ℕ, suc, _+_, _-_, _<_, _≤_}
 use mathlib.Core.Path.{_≡_}
 use mathlib.Core.List.{List}
+use native.Mathlib.Omega.{arith}
 use borrow.Author.Tests.{le-ltb, lt-ltb, eq-eqb, ne-eqb}
 use lib.ListN.{getD}
-use lib.IntN.{pos, negsuc}
 use Rattle.decimal.specs.declared.number.Number.the-variants.{Value, NoNumber}
-use Rattle.decimal.specs.declared.signed.Signed.the-variants.{Whole, NoSigned}
 use Rattle.decimal.specs.Decimal.{minusByte, maxPositive, maxNegative}
 use Rattle.decimal.specs.Number.{numberAt}
-use Rattle.decimal.specs.Signed.{signedAt}
+use Rattle.decimal.specs.Signed.{NoSigned, signedAt, raisedOf}
 
 module _ (s : List ℕ) (i b : ℕ) (q : b ≡ getD s i 0) where
   module _ (m : b ≡ minusByte) where
@@ -26,9 +25,11 @@ module _ (s : List ℕ) (i b : ℕ) (q : b ≡ getD s i 0) where
       unfolding signedAt
       minus-over z o = rw (← q, eq-eqb b minusByte m, f, ne-eqb n 0 z, lt-ltb maxNegative n o)
 
-      pub minus-some : (n ≡ 0 → ⊥) → n ≤ maxNegative → signedAt s i ≡ Whole (negsuc (n - 1)) e
+      pub minus-some : (n ≡ 0 → ⊥) → n ≤ maxNegative → raisedOf (signedAt s i) ≡ Value (maxNegative - n) e
       unfolding signedAt
-      minus-some z l = rw (← q, eq-eqb b minusByte m, f, ne-eqb n 0 z, le-ltb maxNegative n l)
+      minus-some z l =
+          let a : suc (n - 1) ≡ n = omega arith in
+          rw (← q, eq-eqb b minusByte m, f, ne-eqb n 0 z, le-ltb maxNegative n l, a)
 
   module _ (m : b ≡ minusByte → ⊥) where
     pub plus-none : numberAt s i ≡ NoNumber → signedAt s i ≡ NoSigned
@@ -40,6 +41,6 @@ module _ (s : List ℕ) (i b : ℕ) (q : b ≡ getD s i 0) where
       unfolding signedAt
       plus-over o = rw (← q, ne-eqb b minusByte m, f, lt-ltb maxPositive n o)
 
-      pub plus-some : n ≤ maxPositive → signedAt s i ≡ Whole (pos n) e
+      pub plus-some : n ≤ maxPositive → raisedOf (signedAt s i) ≡ Value (maxNegative + n) e
       unfolding signedAt
       plus-some l = rw (← q, ne-eqb b minusByte m, f, le-ltb maxPositive n l)

@@ -1,16 +1,21 @@
--- Reading a signed number at an offset of a text: a minus and a number other than 0, or a number. Working definitions.
-use Prim.Native.Nat.{ℕ, _+_, _-_}
+-- Reading a signed number at an offset of a text: a minus and a number other than 0, or a number; and signed numbers as unsigned ones, 2^31
+-- higher, as code keeps them. Working definitions.
+use Prim.Native.Nat.{ℕ, suc, _+_, _-_}
 use mathlib.Core.Bool.{cond}
 use mathlib.Core.List.{List}
 use lib.ListN.{getD}
 use lib.Dec.{eqb, ltb}
 use lib.IntN.{ℤ, pos, negsuc}
 use Rattle.decimal.specs.declared.number.Number.{Number}
-use Rattle.decimal.specs.declared.signed.Signed.{Signed}
-use Rattle.decimal.specs.declared.signed.Signed.the-variants.{Whole, NoSigned}
+use Rattle.decimal.specs.declared.number.Number.the-variants.{Value, NoNumber}
 use Rattle.decimal.specs.Decimal.{minusByte, maxPositive, maxNegative}
-use Rattle.decimal.specs.Word.{comma, newline, wordAt, onFound}
+use Rattle.decimal.specs.Word.{comma, wordAt, onFound}
 use Rattle.decimal.specs.Number.{numberAt, onNumber}
+
+-- a signed number and the offset past it
+pub data Signed : Type 0 where
+  Whole : ℤ → ℕ → Signed
+  NoSigned : Signed
 
 -- what a number behind a minus gives
 abbrev pub minus : Number → Signed
@@ -32,6 +37,16 @@ abbrev pub onSigned : {A : Type 0} → Signed → (ℤ → ℕ → A) → A → 
 onSigned (Whole x i) f other = f x i
 onSigned NoSigned f other = other
 
--- the signed number behind a comma that ends its line, with the offset of the next line
-unfoldable pub signedEnd : List ℕ → ℕ → Signed
-signedEnd s i = onSigned (signedFieldAt s i) (λ x e. onFound (wordAt newline s e) (λ next. Whole x next) NoSigned) NoSigned
+-- ---- 2^31 higher, and back
+
+abbrev pub raised : ℤ → ℕ
+raised (pos n) = maxNegative + n
+raised (negsuc n) = maxNegative - suc n
+
+abbrev pub lowered : ℕ → ℤ
+lowered n = cond (ltb n maxNegative) (negsuc (maxNegative - n - 1)) (pos (n - maxNegative))
+
+-- what is read of a signed number: the unsigned one
+abbrev pub raisedOf : Signed → Number
+raisedOf (Whole x i) = Value (raised x) i
+raisedOf NoSigned = NoNumber

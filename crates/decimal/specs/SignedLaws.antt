@@ -7,11 +7,9 @@ use native.Mathlib.Omega.{arith}
 use lib.ListN.{getD}
 use lib.Dec.{ltb, eqb}
 use lib.IntN.{ℤ, pos, negsuc}
-use borrow.Author.Tests.{ltb-false, eqb-true, eqb-false, le-ltb, eq-eqb, ne-eqb}
+use borrow.Author.Tests.{ltb-false, eqb-true, eqb-false, le-ltb, lt-ltb, eq-eqb, ne-eqb}
 use Rattle.decimal.specs.declared.number.Number.{Number}
 use Rattle.decimal.specs.declared.number.Number.the-variants.{Value, NoNumber}
-use Rattle.decimal.specs.declared.signed.Signed.{Signed}
-use Rattle.decimal.specs.declared.signed.Signed.the-variants.{Whole, NoSigned}
 use Rattle.decimal.specs.declared.word.Found.{Found}
 use Rattle.decimal.specs.declared.word.Found.the-variants.{At, Absent}
 use Rattle.decimal.specs.Decimal.{decimal, minusByte, signedDecimal, maxPositive, maxNegative}
@@ -22,7 +20,7 @@ use Rattle.decimal.specs.WordLaws.{word-spans, word-read}
 use Rattle.decimal.specs.Number.{NoDigit, numberAt}
 use Rattle.decimal.specs.NumberLaws.{number-is}
 use Rattle.decimal.specs.ReadBackLaws.{number-read, number-first}
-use Rattle.decimal.specs.Signed.{minus, plus, signedAt, signedFieldAt, signedEnd, onSigned}
+use Rattle.decimal.specs.Signed.{Signed, Whole, NoSigned, minus, plus, signedAt, signedFieldAt, raised, lowered}
 use Rattle.decimal.specs.Fields.{signedField, InSigned}
 
 -- x stands in decimal at i, up to j
@@ -90,17 +88,11 @@ unfolding signedFieldAt
 signed-field-read x u l h =
     rw (word-read comma (spans-front comma (signedDecimal x) u)) (signed-read x (spans-back comma (signedDecimal x) u) l h)
 
--- what follows a signed field that ends its line
-pub signed-end : {A : Type 0} (s : List ℕ) (i : ℕ) (f : ℤ → ℕ → A) (other : A)
-    → onSigned (signedEnd s i) f other ≡ onSigned (signedFieldAt s i) (λ x e. onFound (wordAt newline s e) (λ next. f x next) other) other
-unfolding signedEnd
-signed-end {A} s i f other = go (signedFieldAt s i)
-  where
-    ends : (x : ℤ) (w : Found) → onSigned (onFound w (λ next. Whole x next) NoSigned) f other ≡ onFound w (λ next. f x next) other
-    ends x (At next) = refl
-    ends x Absent = refl
-
-    go : (y : Signed) → onSigned (onSigned y (λ x e. onFound (wordAt newline s e) (λ next. Whole x next) NoSigned) NoSigned) f other
-        ≡ onSigned y (λ x e. onFound (wordAt newline s e) (λ next. f x next) other) other
-    go (Whole x e) = ends x (wordAt newline s e)
-    go NoSigned = refl
+-- what is 2^31 higher, and back, is the same
+pub lowered-raised : (x : ℤ) → InSigned x → lowered (raised x) ≡ x
+lowered-raised (pos n) l =
+    let a : maxNegative + n - maxNegative ≡ n = omega arith in
+    rw (le-ltb (maxNegative + n) maxNegative (omega arith), a)
+lowered-raised (negsuc n) l =
+    let a : maxNegative - (maxNegative - suc n) - 1 ≡ n = omega arith in
+    rw (lt-ltb (maxNegative - suc n) maxNegative (omega arith), a)

@@ -5,8 +5,7 @@ mod word;
 
 pub use number::Number;
 pub use number::field;
-pub use signed::Signed;
-pub use signed::signed_end;
 pub use signed::signed_field;
+pub use signed::signed_value;
 pub use word::Found;
 pub use word::past;

@@ -1,4 +1,4 @@
-// A signed decimal number at an offset of a text.
+// A signed decimal number at an offset of a text: kept as an unsigned one, 2^31 higher, and given back.
 use crate::number::Number;
 use crate::number::byte_at;
 use crate::number::number_at;
@@ -8,13 +8,10 @@ ghost use mathlib.Core.Path.{_≡_};
 ghost use Prim.Native.Nat.{_-_, _<_, _≤_};
 ghost use lib.IntN.{pos, negsuc};
 ghost use Rattle.decimal.specs.Decimal.{maxPositive, maxNegative};
-ghost use Rattle.decimal.specs.Signed.{signedAt, signedFieldAt, signedEnd};
+ghost use Rattle.decimal.specs.Signed.{signedAt, signedFieldAt, raisedOf, lowered};
 
-// A signed number and the offset past it.
-pub enum Signed {
-    Whole(i32, usize),
-    NoSigned,
-}
+// 2^31: by how much a signed number is raised, and the size of the least one.
+const RAISE: u32 = 2147483648;
 
 fn positive(n: u32) -> i32
     requires { ⌜ n ≤ maxPositive ⌝ }
@@ -32,51 +29,48 @@ fn negative(n: u32) -> i32
     -1 - m
 }
 
-// The signed number at `at`: a minus never stands before 0.
-fn signed_at(text: &[u8], at: usize) -> Signed
-    ensures { λ r. ⌜ r ≡ signedAt (now (text .entry)) at ⌝ }
+// The signed number that was raised to n.
+pub fn signed_value(n: u32) -> i32
+    ensures { λ r. ⌜ r ≡ lowered n ⌝ }
+{
+    if n < RAISE {
+        return negative(RAISE - n);
+    }
+    positive(n - RAISE)
+}
+
+// The signed number at `at`, raised: a minus never stands before 0.
+fn signed_at(text: &[u8], at: usize) -> Number
+    ensures { λ r. ⌜ r ≡ raisedOf (signedAt (now (text .entry)) at) ⌝ }
 {
     if byte_at(text, at) == b'-' {
         let Number::Value(n, e) = number_at(text, at + 1) else {
-            return Signed::NoSigned;
+            return Number::NoNumber;
         };
         if n == 0 {
-            return Signed::NoSigned;
+            return Number::NoNumber;
         }
-        if n > 2147483648 {
-            return Signed::NoSigned;
+        if n > RAISE {
+            return Number::NoNumber;
         }
-        Signed::Whole(negative(n), e)
+        Number::Value(RAISE - n, e)
     } else {
         let Number::Value(n, e) = number_at(text, at) else {
-            return Signed::NoSigned;
+            return Number::NoNumber;
         };
-        if n > 2147483647 {
-            return Signed::NoSigned;
+        if n >= RAISE {
+            return Number::NoNumber;
         }
-        Signed::Whole(positive(n), e)
+        Number::Value(RAISE + n, e)
     }
 }
 
-// The signed number behind a comma at `at`.
-pub fn signed_field(text: &[u8], at: usize) -> Signed
-    ensures { λ r. ⌜ r ≡ signedFieldAt (now (text .entry)) at ⌝ }
+// The signed number behind a comma at `at`, raised.
+pub fn signed_field(text: &[u8], at: usize) -> Number
+    ensures { λ r. ⌜ r ≡ raisedOf (signedFieldAt (now (text .entry)) at) ⌝ }
 {
     let Found::At(p) = past(text, at, b",") else {
-        return Signed::NoSigned;
+        return Number::NoNumber;
     };
     signed_at(text, p)
-}
-
-// The signed number behind a comma at `at` that ends its line, and the offset of the next line.
-pub fn signed_end(text: &[u8], at: usize) -> Signed
-    ensures { λ r. ⌜ r ≡ signedEnd (now (text .entry)) at ⌝ }
-{
-    let Signed::Whole(x, e) = signed_field(text, at) else {
-        return Signed::NoSigned;
-    };
-    let Found::At(next) = past(text, e, b"\n") else {
-        return Signed::NoSigned;
-    };
-    Signed::Whole(x, next)
 }

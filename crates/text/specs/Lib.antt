@@ -1,13 +1,3 @@
-pub mod Keywords
-pub mod Newlines
-pub mod Size
-pub mod Format
-pub mod Line
-pub mod OnLine
-pub mod Kind
-pub mod KindLaws
-pub mod WeightListLaws
-pub mod LineLaws
+-- What the line parser gives: definitions and laws.
+pub mod LineRead
 pub mod LineReadLaws
-pub mod RuleLineLaws
-pub mod NewlineLaws

@@ -1,163 +1,141 @@
--- The law of reading a line back: a line that stands in the text is read, whatever is behind it.
-use Prim.Native.Nat.{ℕ, _<_}
-use mathlib.Core.Path.{_≡_, refl, ap, _∙_}
-use mathlib.Core.Logic.{inl}
+-- What the line parser gives is what is seen of the kind. Laws.
+use Prim.Native.Nat.{ℕ, zero, suc, _+_, _<_, _≤_}
+use mathlib.Core.Path.{_≡_, refl, sym, ap, _∙_}
 use mathlib.Core.List.{List, [], _∷_, _++_, append-nil}
 use native.Mathlib.Omega.{arith}
-use lib.ListN.{length, getD}
-use lib.Seq.{append-snoc}
-use lib.IntN.{ℤ}
-use Rattle.rules.specs.declared.weights.ZoneWeights.{ZoneWeights}
-use Rattle.text.specs.declared.lines.Line.{Line}
-use Rattle.text.specs.declared.lines.Line.the-variants.{Weights, Rule, Horizon, Chart, Point, Shift, Other}
-use Rattle.decimal.specs.Spans.{Spans}
-use Rattle.decimal.specs.SpansLaws.{spans-front, spans-back, spans-first}
-use Rattle.decimal.specs.Word.{newline}
-use Rattle.text.specs.Keywords.{weightsWord, ruleWord, horizonWord, chartWord, pointWord, shiftWord}
-use Rattle.decimal.specs.WordLaws.{word-read, word-absent}
-use Rattle.decimal.specs.Number.{NoDigit}
-use Rattle.decimal.specs.ReadBackLaws.{field-read}
-use Rattle.decimal.specs.SignedLaws.{signed-field-read, signed-end}
-use Rattle.text.specs.Line.{zoneWeights, fieldsFrom, weightsFrom, ruleFrom, horizonFrom, chartFrom, pointFrom, shiftFrom, lineAt}
-use Rattle.text.specs.Kind.{kindOf}
-use Rattle.rules.specs.Weights.{weightList}
-use Rattle.decimal.specs.Fields.{field, signedField, fields, AllUnsigned, none, one}
-use Rattle.text.specs.Format.{bytesOf, InRange, LineIs}
+use native.Mathlib.Numerals.{add-one}
+use lib.ListN.{length, getD, set, take, drop, replicate, drop-of-length-le}
+use lib.Seq.{append-snoc, drop-cons, take-suc-set, getD-set-other}
+use Rattle.decimal.specs.declared.number.Number.{Number}
+use Rattle.decimal.specs.declared.number.Number.the-variants.{Value as ANumber, NoNumber}
+use Rattle.decimal.specs.declared.word.Found.{Found}
+use Rattle.decimal.specs.declared.word.Found.the-variants.{At, Absent}
+use Rattle.decimal.specs.Word.{newline, wordAt, onFound}
+use Rattle.decimal.specs.Number.{fieldAt, onNumber}
+use Rattle.decimal.specs.Signed.{Signed, Whole, NoSigned, signedFieldAt, onSigned, raised, raisedOf}
+use Rattle.grammar.specs.Row.{Field, number, signed, Value, Row}
+use Rattle.grammar.specs.Reading.{Seen, found, other, onSeen, valueAt, rowFrom, rowAt}
+use Rattle.text.specs.declared.lines.LineRead.{LineRead}
+use Rattle.text.specs.LineRead.{mostFields, fieldOf, fieldsOf, code, codes, placesOf, lineRead, noLine, lineOf, lineReadAt, codeAt, codesFrom}
 
--- a separator is no digit
-ends : {s : List ℕ} {i b j : ℕ} {l : List ℕ} → Spans s i (b ∷ l) j → b < 48 → NoDigit (getD s i 0)
-ends u h = let e = spans-first u in inl (omega arith)
+-- ---- one field, and all of them
 
-fields-end : {s : List ℕ} {i e j : ℕ} (ns : List ℕ) → Spans s i (fields ns) e → Spans s e newline j → NoDigit (getD s i 0)
-unfolding fields field
-fields-end {s} {i} {e} [] u v = let n : i ≡ e = omega (arith, u .end) in rw n (ends v (omega arith))
-fields-end (n ∷ ns) u v = ends u (omega arith)
+abbrev valueCode : (f : Field) → Seen (Value f) → Number
+valueCode f (found x e) = ANumber (code f x) e
+valueCode f other = NoNumber
 
-fields-read : {s : List ℕ} {p e j : ℕ} (ns w : List ℕ) → AllUnsigned ns → Spans s p (fields ns) e → Spans s e newline j
-    → fieldsFrom (length ns) s p w ≡ Weights (zoneWeights (w ++ ns)) j
-unfolding fields fieldsFrom
-fields-read {s} {p} {e} {j} [] w none u v =
-    let n : p ≡ e = omega (arith, u .end) in
-    rw (n, word-read newline v, append-nil)
-fields-read (n ∷ ns) w (one r a) u v =
-    let b = spans-back (field n) (fields ns) u in
-    rw (field-read n (spans-front (field n) (fields ns) u) r (fields-end ns b v))
-    (fields-read ns (w ++ (n ∷ [])) a b v ∙ rw append-snoc)
+code-seen : (f : Field) (s : List ℕ) (p : ℕ) → codeAt f s p ≡ valueCode f (valueAt f s p)
+unfolding valueAt
+code-seen number s p = go (fieldAt s p)
+  where
+    go : (x : Number) → x ≡ valueCode number (onNumber x found other)
+    go (ANumber n e) = refl
+    go NoNumber = refl
+code-seen signed s p = go (signedFieldAt s p)
+  where
+    go : (x : Signed) → raisedOf x ≡ valueCode signed (onSigned x found other)
+    go (Whole x e) = refl
+    go NoSigned = refl
 
-module _ {s : List ℕ} {at : ℕ} where
-  weights-read : (w : ZoneWeights) (next : ℕ) → LineIs s at (Weights w next) → lineAt s at ≡ Weights w next
-  unfolding lineAt weightsFrom
-  weights-read w next l =
-      let u = spans-front (weightsWord ++ fields (weightList w)) newline (l .spans) in
-      rw (word-read weightsWord (spans-front weightsWord (fields (weightList w)) u))
-      (fields-read (weightList w) [] (l .range) (spans-back weightsWord (fields (weightList w)) u) (spans-back (weightsWord ++ fields (weightList w)) newline (l .spans)))
+-- behind the values w
+abbrev behind : List ℕ → (fs : List Field) → Seen (Row fs) → LineRead
+behind w fs (found x next) = lineRead (At next) (w ++ codes fs x)
+behind w fs other = noLine
 
-  rule-read : (k m zones next : ℕ) → LineIs s at (Rule k m zones next) → lineAt s at ≡ Rule k m zones next
-  unfolding lineAt ruleFrom field
-  rule-read k m zones next l =
-      let b = getD s at 0 in
-      let first : b ≡ 114 = spans-first (l .spans) in
-      let uz = spans-front (ruleWord ++ field k ++ field m ++ field zones) newline (l .spans) in
-      let um = spans-front (ruleWord ++ field k ++ field m) (field zones) uz in
-      let uk = spans-front (ruleWord ++ field k) (field m) um in
-      let vk = spans-back ruleWord (field k) uk in
-      let vm = spans-back (ruleWord ++ field k) (field m) um in
-      let vz = spans-back (ruleWord ++ field k ++ field m) (field zones) uz in
-      let ve = spans-back (ruleWord ++ field k ++ field m ++ field zones) newline (l .spans) in
-      rw (
-        word-absent s at 119 114 _ first refl,
-        word-read ruleWord (spans-front ruleWord (field k) uk),
-        field-read k vk (l .range .0) (ends vm (omega arith)),
-        field-read m vm (l .range .1) (ends vz (omega arith)),
-        field-read zones vz (l .range .2) (ends ve (omega arith)),
-        word-read newline ve,
-      )
+codes-seen : (fs : List Field) (s : List ℕ) (p : ℕ) (w : List ℕ) → codesFrom fs s p w ≡ behind w fs (rowFrom fs s p)
+unfolding codesFrom rowFrom codes
+codes-seen [] s p w = go (wordAt newline s p)
+  where
+    go : (x : Found) → onFound x (λ next. lineRead (At next) w) noLine ≡ behind w [] (onFound x (λ next. found tt next) other)
+    go (At next) = rw (append-nil w)
+    go Absent = refl
+codes-seen (f ∷ fs) s p w = rw (code-seen f s p) (go (valueAt f s p) (λ x e. codes-seen fs s e (w ++ (x ∷ []))))
+  where
+    more : (x : Value f) (y : Seen (Row fs))
+        → behind (w ++ (code f x ∷ [])) fs y ≡ behind w (f ∷ fs) (onSeen y (λ xs next. found (x, xs) next) other)
+    more x (found xs next) = rw (append-snoc w (code f x) (codes fs xs))
+    more x other = refl
 
-  horizon-read : (horizon next : ℕ) → LineIs s at (Horizon horizon next) → lineAt s at ≡ Horizon horizon next
-  unfolding lineAt horizonFrom
-  horizon-read horizon next l =
-      let first : getD s at 0 ≡ 104 = spans-first (l .spans) in
-      let uh = spans-front (horizonWord ++ field horizon) newline (l .spans) in
-      let ve = spans-back (horizonWord ++ field horizon) newline (l .spans) in
-      rw (
-        word-absent s at 119 104 _ first refl,
-        word-absent s at 114 104 _ first refl,
-        word-read horizonWord (spans-front horizonWord (field horizon) uh),
-        field-read horizon (spans-back horizonWord (field horizon) uh) (l .range) (ends ve (omega arith)),
-        word-read newline ve,
-      )
+    go : (y : Seen (Value f))
+        → ((x e : ℕ) → codesFrom fs s e (w ++ (x ∷ [])) ≡ behind (w ++ (x ∷ [])) fs (rowFrom fs s e))
+        → onNumber (valueCode f y) (λ x e. codesFrom fs s e (w ++ (x ∷ []))) noLine
+        ≡ behind w (f ∷ fs) (onSeen y (λ x e. onSeen (rowFrom fs s e) (λ xs next. found (x, xs) next) other) other)
+    go (found x e) ih = ih (code f x) e ∙ more x (rowFrom fs s e)
+    go other ih = refl
 
-  chart-read : (centre : ℤ) (sigma next : ℕ) → LineIs s at (Chart centre sigma next) → lineAt s at ≡ Chart centre sigma next
-  unfolding lineAt chartFrom field
-  chart-read centre sigma next l =
-      let first : getD s at 0 ≡ 99 = spans-first (l .spans) in
-      let us = spans-front (chartWord ++ signedField centre ++ field sigma) newline (l .spans) in
-      let uc = spans-front (chartWord ++ signedField centre) (field sigma) us in
-      let vs = spans-back (chartWord ++ signedField centre) (field sigma) us in
-      let ve = spans-back (chartWord ++ signedField centre ++ field sigma) newline (l .spans) in
-      rw (
-        word-absent s at 119 99 _ first refl,
-        word-absent s at 114 99 _ first refl,
-        word-absent s at 104 99 _ first refl,
-        word-read chartWord (spans-front chartWord (signedField centre) uc),
-        signed-field-read centre (spans-back chartWord (signedField centre) uc) (l .range .0) (ends vs (omega arith)),
-        field-read sigma vs (l .range .1) (ends ve (omega arith)),
-        word-read newline ve,
-      )
+behind-none : (fs : List Field) (y : Seen (Row fs)) → behind [] fs y ≡ lineOf fs y
+behind-none fs (found x next) = refl
+behind-none fs other = refl
 
-  point-read : (node : ℕ) (reading : ℤ) (next : ℕ) → LineIs s at (Point node reading next) → lineAt s at ≡ Point node reading next
-  unfolding lineAt pointFrom
-  point-read node reading next l =
-      let first : getD s at 0 ≡ 112 = spans-first (l .spans) in
-      let ur = spans-front (pointWord ++ field node ++ signedField reading) newline (l .spans) in
-      let un = spans-front (pointWord ++ field node) (signedField reading) ur in
-      let vr = spans-back (pointWord ++ field node) (signedField reading) ur in
-      let ve = spans-back (pointWord ++ field node ++ signedField reading) newline (l .spans) in
-      rw (
-        word-absent s at 119 112 _ first refl,
-        word-absent s at 114 112 _ first refl,
-        word-absent s at 104 112 _ first refl,
-        word-absent s at 99 112 _ first refl,
-        word-read pointWord (spans-front pointWord (field node) un),
-        field-read node (spans-back pointWord (field node) un) (l .range .0) (ends vr (omega arith)),
-        signed-end s _ (Point node) Other,
-        signed-field-read reading vr (l .range .1) (ends ve (omega arith)),
-        word-read newline ve,
-      )
+module _ (w : List ℕ) (fs : List Field) (s : List ℕ) (at : ℕ) where
+  -- the word, and what follows it
+  pub line-word : (p : ℕ) → wordAt w s at ≡ At p → codesFrom fs s p [] ≡ lineReadAt w fs s at
+  unfolding rowAt lineReadAt
+  line-word p e = rw e (codes-seen fs s p [] ∙ behind-none fs (rowFrom fs s p))
 
-  shift-read : (shift : ℤ) (next : ℕ) → LineIs s at (Shift shift next) → lineAt s at ≡ Shift shift next
-  unfolding lineAt shiftFrom
-  shift-read shift next l =
-      let first : getD s at 0 ≡ 115 = spans-first (l .spans) in
-      let us = spans-front (shiftWord ++ signedField shift) newline (l .spans) in
-      let ve = spans-back (shiftWord ++ signedField shift) newline (l .spans) in
-      rw (
-        word-absent s at 119 115 _ first refl,
-        word-absent s at 114 115 _ first refl,
-        word-absent s at 104 115 _ first refl,
-        word-absent s at 99 115 _ first refl,
-        word-absent s at 112 115 _ first refl,
-        word-read shiftWord (spans-front shiftWord (signedField shift) us),
-        signed-end s _ Shift Other,
-        signed-field-read shift (spans-back shiftWord (signedField shift) us) (l .range) (ends ve (omega arith)),
-        word-read newline ve,
-      )
+  pub line-no-word : wordAt w s at ≡ Absent → noLine ≡ lineReadAt w fs s at
+  unfolding rowAt lineReadAt
+  line-no-word e = rw e
 
-  pub line-read : (l : Line) → LineIs s at l → lineAt s at ≡ l
-  line-read (Weights w next) l = weights-read w next l
-  line-read (Rule k m zones next) l = rule-read k m zones next l
-  line-read (Horizon horizon next) l = horizon-read horizon next l
-  line-read (Chart centre sigma next) l = chart-read centre sigma next l
-  line-read (Point node reading next) l = point-read node reading next l
-  line-read (Shift shift next) l = shift-read shift next l
-  line-read Other l = absurd (l .range)
+-- ---- the turns of the loop over the fields
 
-  -- whatever offset is put behind it
-  pub kind-read : (l : Line) {end : ℕ} → InRange l → Spans s at (bytesOf l) end → kindOf (lineAt s at) ≡ kindOf l
-  kind-read (Weights w next) r u = ap kindOf (line-read (Weights w _) (record { spans = u; range = r }))
-  kind-read (Rule k m zones next) r u = ap kindOf (line-read (Rule k m zones _) (record { spans = u; range = r }))
-  kind-read (Horizon h next) r u = ap kindOf (line-read (Horizon h _) (record { spans = u; range = r }))
-  kind-read (Chart c d next) r u = ap kindOf (line-read (Chart c d _) (record { spans = u; range = r }))
-  kind-read (Point node x next) r u = ap kindOf (line-read (Point node x _) (record { spans = u; range = r }))
-  kind-read (Shift x next) r u = ap kindOf (line-read (Shift x _) (record { spans = u; range = r }))
-  kind-read Other r u = absurd r
+-- nothing but 0 from i on
+pub record Clean (w : List ℕ) (i : ℕ) : Type 0 where
+  pub zero-at : (j : ℕ) → i ≤ j → getD w j 0 ≡ 0
+
+zeros : (k j : ℕ) → _≡_ {A = ℕ} (getD (replicate k 0) j 0) 0
+zeros zero j = refl
+zeros (suc k) zero = refl
+zeros (suc k) (suc j) = zeros k j
+
+pub clean-start : Clean (replicate mostFields 0) 0
+clean-start = record { zero-at = λ j h. zeros mostFields j }
+
+pub clean-more : {w : List ℕ} {i : ℕ} (x : ℕ) → Clean w i → Clean (set w i x) (i + 1)
+clean-more {w} {i} x c =
+    record { zero-at = λ j h. getD-set-other w i j x 0 (λ e. omega arith) ∙ c .zero-at j (omega arith) }
+
+clean-tail : {a : ℕ} {w : List ℕ} {i : ℕ} → Clean (a ∷ w) (suc i) → Clean w i
+clean-tail c = record { zero-at = λ j h. c .zero-at (suc j) (omega arith) }
+
+clean-all : {a : ℕ} {w : List ℕ} → Clean (a ∷ w) 0 → Clean w 0
+clean-all c = record { zero-at = λ j h. c .zero-at (suc j) (omega arith) }
+
+pub places-kept : (n i : ℕ) (w : List ℕ) → length w ≡ n → Clean w i → placesOf n (take i w) ≡ w
+unfolding placesOf
+places-kept zero i [] e c = refl
+places-kept zero i (a ∷ w) e c = absurd (omega arith)
+places-kept (suc n) i [] e c = absurd (omega arith)
+places-kept (suc n) zero (a ∷ w) e c =
+    let z : 0 ≡ a = sym (c .zero-at 0 (omega arith)) in
+    let t = places-kept n zero w (omega arith) (clean-all c) in
+    λ k. z k ∷ t k
+places-kept (suc n) (suc i) (a ∷ w) e c = ap (λ (l : List ℕ). a ∷ l) (places-kept n i w (omega arith) (clean-tail c))
+
+-- what is read from p on, the first i values being in w
+abbrev pub rest : List ℕ → List ℕ → ℕ → List ℕ → ℕ → LineRead
+rest letters s p w i = codesFrom (fieldsOf (drop i letters)) s p (take i w)
+
+module _ (letters s : List ℕ) (p : ℕ) (w : List ℕ) (i : ℕ) (h : i < length letters) where
+  letter-here : fieldsOf (drop i letters) ≡ fieldOf (getD letters i 0) ∷ fieldsOf (drop (i + 1) letters)
+  letter-here = rw (drop-cons letters i 0 h, add-one)
+
+  pub next-value : (x e : ℕ) → codeAt (fieldOf (getD letters i 0)) s p ≡ ANumber x e → i < length w
+      → rest letters s p w i ≡ rest letters s e (set w i x) (i + 1)
+  unfolding codesFrom
+  next-value x e q l = rw (letter-here, q, add-one, take-suc-set w i x l)
+
+  pub no-value : codeAt (fieldOf (getD letters i 0)) s p ≡ NoNumber → rest letters s p w i ≡ noLine
+  unfolding codesFrom
+  no-value q = rw (letter-here, q)
+
+-- all are read
+module _ (letters s : List ℕ) (p : ℕ) (w : List ℕ) (i : ℕ) (h : length letters ≤ i) where
+  pub line-ends : (e : ℕ) → wordAt newline s p ≡ At e → length w ≡ mostFields → Clean w i
+      → rest letters s p w i ≡ record { next = At e; values = w }
+  unfolding codesFrom
+  line-ends e q l c = rw (drop-of-length-le letters h, q, places-kept mostFields i w l c)
+
+  pub line-goes-on : wordAt newline s p ≡ Absent → rest letters s p w i ≡ noLine
+  unfolding codesFrom
+  line-goes-on q = rw (drop-of-length-le letters h, q)

@@ -1,24 +1,16 @@
-// A reader: the lent text and the offset of the next line. Each function is thin, over the one on the text and the offset.
-use crate::lines::Line;
-use crate::lines::line_at;
+// A reader: the lent text and the offset of the next line.
+use crate::lines::LineRead;
+use crate::lines::parse_line;
 ghost use mathlib.Core.Path.{_≡_};
-ghost use Rattle.text.specs.Line.{lineAt};
+ghost use Prim.Native.Nat.{_≤_};
+ghost use lib.ListN.{length};
+ghost use Rattle.text.specs.LineRead.{mostFields, fieldsOf, lineReadAt};
 
-pub struct Reader<'a> {
-    pub text: &'a [u8],
-    pub at: usize,
-}
-
-// The line that the reader stands at.
-pub fn line<'a>(r: Reader<'a>) -> Line
-    ensures { λ l. ⌜ l ≡ lineAt (now (r .entry .text)) (r .entry .at) ⌝ }
+// The line at `at`, where one of the word is asked for, with a field for each letter: `n` for a number, `s` for a signed one. For the crates
+// of this repository, which ask for at most eight fields: hence the `requires`.
+pub fn line_at(text: &[u8], at: usize, word: &[u8], letters: &[u8]) -> LineRead
+    requires { ⌜ length (now letters) ≤ mostFields ⌝ }
+    ensures { λ r. ⌜ r ≡ lineReadAt (now (word .entry)) (fieldsOf (now (letters .entry))) (now (text .entry)) at ⌝ }
 {
-    line_at(r.text, r.at)
-}
-
-// The reader moved to the line at `at`.
-pub fn moved<'a>(r: Reader<'a>, at: usize) -> Reader<'a>
-    ensures { λ q. ⌜ (q .text ≡ r .entry .text) × (q .at ≡ at) ⌝ }
-{
-    Reader { text: r.text, at }
+    parse_line(text, at, word, letters)
 }

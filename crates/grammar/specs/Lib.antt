@@ -1,0 +1,22 @@
+-- What a text is, for every program: definitions, laws, claims.
+pub mod Size
+pub mod Newlines
+pub mod NewlineLaws
+pub mod Row
+pub mod Form
+pub mod Grammar
+pub mod Clear
+pub mod Blocks
+pub mod Reading
+pub mod Read
+pub mod Told
+pub mod RowLaws
+pub mod FormLaws
+pub mod ToldLaws
+pub mod LinesLaws
+pub mod ClearLaws
+pub mod StopsLaws
+pub mod ReadingLaws
+pub mod GrammarLaws
+pub mod StepLaws
+pub mod TurnLaws
