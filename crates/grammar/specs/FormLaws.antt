@@ -13,7 +13,7 @@ use Rattle.grammar.specs.NewlineLaws.{newlines-append}
 use lib.Dec.{leb}
 use borrow.Author.Tests.{ne-eqb, leb-true, leb-false}
 use Rattle.decimal.specs.SpansLaws.{spans-within}
-use Rattle.grammar.specs.Row.{Field, Row, rowBytes}
+use Rattle.grammar.specs.Row.{Field, Row, rowBytes, RowFits}
 use Rattle.grammar.specs.Form.{Kind, named, Says, Saying, lineBytes, LineFits, bytesSaid, Fits}
 use Rattle.grammar.specs.Form.{Form, line, either, Said, saying}
 use Rattle.grammar.specs.Clear.{wordNumber}
@@ -197,3 +197,11 @@ module _ (s : List ℕ) (at : ℕ) (f : Form) where
       go : (y : Seen (Said f)) → FormKept s at f y → Look y
       go (found x next) i = i
       go other n = λ b. n (b .says) _ (stands-of (saying f (b .says)) (b .behind) (b .fits) (b .bytes))
+
+-- what is seen of a kind is within 32 bits
+pub seen-fits : (w : List ℕ) (fs : List Field) (s : List ℕ) (at : ℕ) {x : Row fs} {next : ℕ} → seen (line (named w fs)) s at ≡ found x next → RowFits fs x
+unfolding saying
+seen-fits w fs s at {x} {next} e = go (seen (line (named w fs)) s at) (looked s at (line (named w fs))) e
+  where
+    go : (y : Seen (Row fs)) → Look s at (line (named w fs)) y → y ≡ found x next → RowFits fs x
+    go y i e = (rw e at i) .fits

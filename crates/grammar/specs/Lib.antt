@@ -3,6 +3,8 @@ pub mod Size
 pub mod Newlines
 pub mod NewlineLaws
 pub mod Row
+pub mod Numbers
+pub mod NumbersLaws
 pub mod Form
 pub mod Grammar
 pub mod Clear

@@ -3,14 +3,34 @@ use Prim.Native.Nat.{ℕ, zero, suc, _+_, _*_, _≤_, _<_}
 use mathlib.Core.Path.{_≡_, refl}
 use mathlib.Core.List.{List, [], _∷_}
 use native.Mathlib.Omega.{arith}
-use lib.ListN.{length}
-use borrow.Author.Tests.{le-leb, lt-leb}
+use lib.ListN.{length, getD}
+use borrow.Author.Tests.{le-leb, lt-leb, ne-eqb}
 use mathlib.Core.Option.{none as nothing, some}
-use Rattle.grammar.specs.Form.{Form, Said}
+use Rattle.decimal.specs.declared.word.Found.the-variants.{At}
+use Rattle.decimal.specs.SpansLaws.{spans-first, spans-within}
+use Rattle.decimal.specs.Word.{wordAt}
+use Rattle.decimal.specs.WordLaws.{word-spans, word-absent}
+use Rattle.grammar.specs.Row.{Field}
+use Rattle.grammar.specs.Form.{named, Form, line, Said, saying}
 use Rattle.grammar.specs.Grammar.{once, often, perhaps, Grammar}
-use Rattle.grammar.specs.Reading.{Seen, found, other, onSeen, seen, manyAt, afterMany}
+use Rattle.grammar.specs.Reading.{Seen, found, other, onSeen, rowAt, seenKind, seen, manyAt, afterMany}
 use Rattle.grammar.specs.Reading.{read, stopped, also, readAt}
 use Rattle.grammar.specs.FormLaws.{Look, looked, least, form-ahead}
+
+-- where a word stands, no line stands whose word begins with another letter
+pub other-word : (s : List ℕ) (i a p : ℕ) (w : List ℕ) → wordAt (a ∷ w) s i ≡ At p → (b : ℕ) (v : List ℕ) (fs : List Field) → (a ≡ b → ⊥)
+    → seen (line (named (b ∷ v) fs)) s i ≡ other
+unfolding seen seenKind rowAt
+other-word s i a p w e b v fs n =
+    let f : getD s i 0 ≡ a = spans-first (word-spans (a ∷ w) s i p e) in
+    rw (word-absent s i b a v f (ne-eqb a b n))
+
+-- and the text has not ended
+pub word-inside : (s : List ℕ) (i a p : ℕ) (w : List ℕ) → wordAt (a ∷ w) s i ≡ At p → i < length s
+word-inside s i a p w e =
+    let u = word-spans (a ∷ w) s i p e in
+    let t = spans-within (a ∷ w) (omega arith) u in
+    omega (arith, t, u .end)
 
 pub few-more : (l at next n most : ℕ) → at + l ≤ next → next + l * n ≤ most → at + l * suc n ≤ most
 few-more l at next n most h i = omega arith

@@ -1,4 +1,4 @@
--- TO BELIEVE: the rules of the rule lines that stand in a row from an offset on, and the list that holds them. Definitions.
+-- TO BELIEVE: the kind of line that is a rule, and the list that holds rules. Definitions; below them what the reading of rule lines gives.
 use Prim.Native.Nat.{ℕ, zero, suc, _+_}
 use mathlib.Core.Bool.{cond}
 use mathlib.Core.List.{List, [], _∷_}
@@ -9,20 +9,36 @@ use Rattle.rules.specs.declared.RuleList.{RuleList}
 use Rattle.rules.specs.Bounds.{maxRules}
 use Rattle.rules.specs.Check.{noRule}
 use Rattle.rules.specs.Ready.{ruleOf}
-use Rattle.text.specs.Line.{lineAt, ruleLineAt}
-use Rattle.text.specs.OnLine.{onRule, onRuleLine}
 use Rattle.rules.specs.Refusal.{notRefused, badLine}
+use Rattle.decimal.specs.Word.{wordAt, onFound}
+use Rattle.grammar.specs.Row.{number}
+use Rattle.grammar.specs.Form.{Kind, named, Says, line}
+use Rattle.grammar.specs.Reading.{onSeen, seen, manyAt, afterMany}
+use Rattle.rule_lines.specs.declared.rule_lines.RuleLine.{RuleLine}
 use Rattle.rule_lines.specs.declared.rule_lines.RulesRead.{RulesRead}
 
--- the rules, from the line at `at` on; the fuel is a bound on the number of lines, and the text's length is enough
-unfoldable pub rulesAt : ℕ → List ℕ → ℕ → List Rule
-rulesAt zero s at = []
-rulesAt (suc fuel) s at = onRule (lineAt s at) (λ k m zones next. ruleOf k m zones ∷ rulesAt fuel s next) []
+-- `rule`
+abbrev pub ruleWord : List ℕ
+ruleWord = 114 ∷ 117 ∷ 108 ∷ 101 ∷ []
 
--- the offset of the first line that is no rule line
-unfoldable pub afterRules : ℕ → List ℕ → ℕ → ℕ
-afterRules zero s at = at
-afterRules (suc fuel) s at = onRule (lineAt s at) (λ k m zones next. afterRules fuel s next) at
+-- rule,k,m,Z
+abbrev pub ruleLine : Kind
+ruleLine = named ruleWord (number ∷ number ∷ number ∷ [])
+
+-- what the line of a rule says, and the rule that such a line says
+abbrev pub ruleRow : Rule → Says ruleLine
+ruleRow r = (r .k, (r .m, (r .zones, tt)))
+
+abbrev pub ruleSaid : Says ruleLine → Rule
+ruleSaid x = ruleOf (x .0) (x .1 .0) (x .1 .1 .0)
+
+unfoldable pub ruleRows : List Rule → List (Says ruleLine)
+ruleRows [] = []
+ruleRows (r ∷ rs) = ruleRow r ∷ ruleRows rs
+
+unfoldable pub rulesSaid : List (Says ruleLine) → List Rule
+rulesSaid [] = []
+rulesSaid (x ∷ xs) = ruleSaid x ∷ rulesSaid xs
 
 -- n slots with the first n rules, filled up with the rule 0,0,0
 unfoldable pub slotsOf : ℕ → List Rule → List Rule
@@ -34,18 +50,27 @@ slotsOf (suc n) (r ∷ rs) = r ∷ slotsOf n rs
 unfoldable pub ruleListOf : List Rule → RuleList
 ruleListOf rs = record { rules = slotsOf maxRules rs; len = length rs }
 
+-- ---- reading
+
 -- one rule more
 unfoldable pub pushed : RuleList → Rule → RuleList
 pushed l r = record { rules = cond (leb maxRules (l .len)) (l .rules) (set (l .rules) (l .len) r); len = l .len + 1 }
 
--- all the rule lines from `at` on, the first of them being line 2; the line behind them is refused if it begins as one
-unfoldable pub rulesRead : List ℕ → ℕ → RulesRead
-rulesRead s at =
-    let rules = rulesAt (length s) s at in
-    let end = afterRules (length s) s at in
+-- the line at an offset where a rule may come next: one that does not begin with the word, one that gives a rule, or one that begins so and does
+-- not give one
+unfoldable pub ruleLineAt : List ℕ → ℕ → RuleLine
+ruleLineAt s at =
+    onSeen (seen (line ruleLine) s at) (λ x next. RuleLine.Rule (x .0) (x .1 .0) (x .1 .1 .0) next)
+    (onFound (wordAt ruleWord s at) (λ p. RuleLine.Unreadable) RuleLine.Absent)
+
+-- all the rule lines from `at` on, where line `first` begins; the line behind them is refused if it begins as one
+unfoldable pub rulesRead : List ℕ → ℕ → ℕ → RulesRead
+rulesRead s at first =
+    let rows = manyAt (line ruleLine) (length s) s at in
+    let end = afterMany (line ruleLine) (length s) s at in
     record {
-      refusal = onRuleLine (ruleLineAt s end) notRefused (λ k m zones next. notRefused) (badLine (2 + length rules));
-      list = ruleListOf rules;
+      refusal = onFound (wordAt ruleWord s end) (λ p. badLine (first + length rows)) notRefused;
+      list = ruleListOf (rulesSaid rows);
       next = end;
-      line = 2 + length rules;
+      line = first + length rows;
     }

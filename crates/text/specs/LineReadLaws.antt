@@ -13,8 +13,11 @@ use Rattle.decimal.specs.declared.word.Found.the-variants.{At, Absent}
 use Rattle.decimal.specs.Word.{newline, wordAt, onFound}
 use Rattle.decimal.specs.Number.{fieldAt, onNumber}
 use Rattle.decimal.specs.Signed.{Signed, Whole, NoSigned, signedFieldAt, onSigned, raised, raisedOf}
-use Rattle.grammar.specs.Row.{Field, number, signed, Value, Row}
-use Rattle.grammar.specs.Reading.{Seen, found, other, onSeen, valueAt, rowFrom, rowAt}
+use Rattle.grammar.specs.Row.{Field, number, signed, Value, Row, RowFits}
+use Rattle.grammar.specs.Numbers.{numbers, numbersIn}
+use Rattle.grammar.specs.Form.{named, line}
+use Rattle.grammar.specs.Reading.{Seen, found, other, onSeen, valueAt, rowFrom, rowAt, seenKind, seen}
+use Rattle.grammar.specs.FormLaws.{seen-fits}
 use Rattle.text.specs.declared.lines.LineRead.{LineRead}
 use Rattle.text.specs.LineRead.{mostFields, fieldOf, fieldsOf, code, codes, placesOf, lineRead, noLine, lineOf, lineReadAt, codeAt, codesFrom}
 
@@ -139,3 +142,48 @@ module _ (letters s : List ℕ) (p : ℕ) (w : List ℕ) (i : ℕ) (h : length l
   pub line-goes-on : wordAt newline s p ≡ Absent → rest letters s p w i ≡ noLine
   unfolding codesFrom
   line-goes-on q = rw (drop-of-length-le letters h, q)
+
+-- ---- what is seen, from what the parser gives
+
+pub record SeenLine (word : List ℕ) (fs : List Field) (s : List ℕ) (at : ℕ) (r : LineRead) (next : ℕ) : Type 0 where
+  pub row : Row fs
+  pub is : seen (line (named word fs)) s at ≡ found row next
+  pub fits : RowFits fs row
+  pub values : r .values ≡ placesOf mostFields (codes fs row)
+
+abbrev nextIn : Found → ℕ
+nextIn (At n) = n
+nextIn Absent = 0
+
+module _ (word : List ℕ) (fs : List Field) (s : List ℕ) (at : ℕ) {r : LineRead} (e : r ≡ lineReadAt word fs s at) where
+  pub line-seen : {next : ℕ} → r .next ≡ At next → SeenLine word fs s at r next
+  unfolding lineReadAt seen seenKind
+  line-seen {next} q = go (rowAt word fs s at) refl (sym (ap (λ (l : LineRead). l .next) e) ∙ q) (ap (λ (l : LineRead). l .values) e)
+    where
+      go : (y : Seen (Row fs)) → rowAt word fs s at ≡ y → lineOf fs y .next ≡ At next → r .values ≡ lineOf fs y .values
+          → SeenLine word fs s at r next
+      go (found x n) h p v =
+          let seen-here : seen (line (named word fs)) s at ≡ found x next = h ∙ ap (λ (i : ℕ). found x i) (ap nextIn p) in
+          record { row = x; is = seen-here; fits = seen-fits word fs s at seen-here; values = v }
+      go other h p v = let z : _≡_ {A = ℕ} 0 1 = cc in absurd (omega arith)
+
+  pub line-none : r .next ≡ Absent → seen (line (named word fs)) s at ≡ other
+  unfolding lineReadAt seen seenKind
+  line-none q = go (rowAt word fs s at) refl (sym (ap (λ (l : LineRead). l .next) e) ∙ q)
+    where
+      go : (y : Seen (Row fs)) → rowAt word fs s at ≡ y → lineOf fs y .next ≡ Absent → rowAt word fs s at ≡ other
+      go (found x n) h p = let z : _≡_ {A = ℕ} 0 1 = cc in absurd (omega arith)
+      go other h p = h
+
+-- of fields that are all numbers
+pub codes-numbers : (n : ℕ) (x : Row (numbers n)) → codes (numbers n) x ≡ numbersIn n x
+unfolding codes numbersIn
+codes-numbers zero x = refl
+codes-numbers (suc n) x = ap (λ (l : List ℕ). x .0 ∷ l) (codes-numbers n (x .1))
+
+pub places-full : (n : ℕ) (l : List ℕ) → length l ≡ n → placesOf n l ≡ l
+unfolding placesOf
+places-full zero [] e = refl
+places-full zero (x ∷ l) e = absurd (omega arith)
+places-full (suc n) [] e = absurd (omega arith)
+places-full (suc n) (x ∷ l) e = ap (λ (m : List ℕ). x ∷ m) (places-full n l (omega arith))

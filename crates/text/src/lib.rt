@@ -4,6 +4,8 @@ mod reader;
 
 pub use lines::LineRead;
 pub use lines::MOST_FIELDS;
+pub use reader::Reader;
+pub use reader::line;
 pub use reader::line_at;
 
 // The longest text that is read, in bytes.

@@ -1,18 +1,18 @@
 -- TO BELIEVE: the weights program's line. Definitions.
 use Prim.Native.Nat.{ℕ, _+_, _*_}
-use mathlib.Core.List.{List}
+use mathlib.Core.List.{List, _++_}
 use lib.ListN.{length}
 use Rattle.rules.specs.declared.weights.ZoneWeights.{ZoneWeights}
 use Rattle.rules.specs.Bounds.{zoneCount}
-use Rattle.text.specs.declared.lines.Line.the-variants.{Weights}
-use Rattle.text.specs.Format.{bytesOf}
+use Rattle.rules.specs.Weights.{weightList}
+use Rattle.decimal.specs.Fields.{fields}
 use Rattle.decimal.specs.Word.{newline}
-use Rattle.text.specs.Keywords.{weightsWord}
+use Rattle.table_text.specs.TableGrammar.{weightsWord}
 use Rattle.write.specs.Field.{shortField}
 
--- the very bytes of a weights line of the text format; the offset behind a line is no part of them
+-- weights,w0,w1,w2,w3,w4,w5,w6,w7
 unfoldable pub weightLine : ZoneWeights → List ℕ
-weightLine w = bytesOf (Weights w 0)
+weightLine w = weightsWord ++ fields (weightList w) ++ newline
 
 -- the most bytes that it has
 abbrev pub weightsRoom : ℕ

@@ -3,18 +3,18 @@ use Prim.Native.Nat.{ℕ}
 use mathlib.Core.List.{List}
 use Rattle.shift.specs.declared.ShiftAnswer.{ShiftAnswer}
 use Rattle.shift.specs.Shift.{shiftOf}
-use Rattle.parse.specs.declared.shifts.ShiftText.{ShiftText}
-use Rattle.parse.specs.ShiftText.{shiftText}
+use Rattle.weights_report.specs.declared.shifts.ShiftText.{ShiftText}
+use Rattle.weights_report.specs.ShiftText.{shiftText}
 use Rattle.weights_report.specs.WeightLine.{weightLine}
 use Rattle.write.specs.Printed.{Printed, lines, refusedBy}
 
 -- the operation on what was read: the text's refusal, 17 or 16, comes before its own, 18
-abbrev pub shiftBy : ShiftText → ShiftAnswer
-shiftBy (ShiftText.Given s) = shiftOf s
-shiftBy (ShiftText.Refused x) = ShiftAnswer.Refused x
+abbrev pub weightsFor : ShiftText → ShiftAnswer
+weightsFor (ShiftText.Given s) = shiftOf s
+weightsFor (ShiftText.Refused x) = ShiftAnswer.Refused x
 
 unfoldable pub textWeights : List ℕ → ShiftAnswer
-textWeights s = shiftBy (shiftText s)
+textWeights s = weightsFor (shiftText s)
 
 -- the weights' line, or the refusal
 abbrev pub weightsBy : ShiftAnswer → Printed

@@ -1,6 +1,7 @@
 // What the weights program prints for a text.
 use crate::WEIGHTS_SIZE;
-use parse::ShiftText;
+use crate::shifts::ShiftText;
+use crate::shifts::shift_text;
 use shift::ShiftAnswer;
 use write::ReportAnswer;
 use write::put_refused;
@@ -12,7 +13,7 @@ ghost use Rattle.weights_report.specs.WeightsReport.{textWeights, weight
 fn text_weights(text: &[u8]) -> ShiftAnswer
     ensures { λ r. ⌜ r ≡ textWeights (now (text .entry)) ⌝ }
 {
-    let read = parse::shift_text(text);
+    let read = shift_text(text);
     match read {
         ShiftText::Refused(r) => ShiftAnswer::Refused(r),
         ShiftText::Given(s) => shift::shift_weights(s),

@@ -57,8 +57,7 @@ loop-again c =
     let x = c .before in
     let v = x .before .before in
     let t = v .before .before in
-    let l = t .before in
-    (
+    let l = t .before in (
       search needs,
       simp length-set (l .loop .inv .1),
       clean-more _ (l .loop .inv .2),

@@ -4,7 +4,7 @@ use mathlib.Core.Path.{_≡_, sym, ap, _∙_}
 use mir.Syntax.{w32}
 use mir.Val.{toZ, ofZ}
 use Rattle.shift.specs.Shift.{shiftOf}
-use Rattle.weights_report.specs.WeightsReport.{shiftBy, textWeights}
+use Rattle.weights_report.specs.WeightsReport.{weightsFor, textWeights}
 use Rattle.weights_report.proofs.weights.text_weights.Statement.{statement}
 use Rattle.weights_report.proofs.weights.text_weights.Tie as tie
 
@@ -24,7 +24,7 @@ returns : tie.Need-returns
 unfolding textWeights
 returns c =
     let t = c .before .before .before in
-    sym (ap shiftBy (sym (t .shift-text .ensures) ∙ c .before .read .given .1))
+    sym (ap weightsFor (sym (t .shift-text .ensures) ∙ c .before .read .given .1))
 
 returns-2 : tie.Need-returns-2
 unfolding textWeights
@@ -32,7 +32,7 @@ returns-2 c =
     let t = c .before .before .before .before in
     let given = c .before .before .read2 .given in
     let fits : toZ w32 (ofZ w32 (given .0 .0)) ≡ given .0 .0 = search needs in
-    c .shift-weights .ensures ∙ ap shiftOf fits ∙ sym (ap shiftBy (sym (t .shift-text .ensures) ∙ given .1))
+    c .shift-weights .ensures ∙ ap shiftOf fits ∙ sym (ap weightsFor (sym (t .shift-text .ensures) ∙ given .1))
 
 pub text-weights-spec : {M : Type 1} → statement M
 text-weights-spec =

@@ -1,0 +1,25 @@
+-- Laws of fields that are all numbers.
+use Prim.Native.Nat.{ℕ, zero, suc}
+use mathlib.Core.Path.{_≡_, refl, ap}
+use mathlib.Core.List.{List, [], _∷_}
+use native.Mathlib.Omega.{arith}
+use lib.ListN.{length}
+use Rattle.grammar.specs.Row.{Row}
+use Rattle.grammar.specs.Numbers.{numbers, numbersIn, numbersRow}
+
+pub numbers-length : (n : ℕ) (x : Row (numbers n)) → length (numbersIn n x) ≡ n
+unfolding numbersIn
+numbers-length zero x = refl
+numbers-length (suc n) x = omega (arith, numbers-length n (x .1))
+
+pub in-row : (n : ℕ) (l : List ℕ) → length l ≡ n → numbersIn n (numbersRow n l) ≡ l
+unfolding numbersIn numbersRow
+in-row zero [] e = refl
+in-row zero (x ∷ l) e = absurd (omega arith)
+in-row (suc n) [] e = absurd (omega arith)
+in-row (suc n) (x ∷ l) e = ap (λ (m : List ℕ). x ∷ m) (in-row n l (omega arith))
+
+pub row-in : (n : ℕ) (x : Row (numbers n)) → numbersRow n (numbersIn n x) ≡ x
+unfolding numbersIn numbersRow
+row-in zero x = refl
+row-in (suc n) x = ap (λ (y : Row (numbers n)). (x .0, y)) (row-in n (x .1))

@@ -1,0 +1,35 @@
+-- TO BELIEVE: the kind of line of a shift text, and its grammar; below them what the weights program is given of its text. Definitions.
+use Prim.Native.Nat.{ℕ}
+use mathlib.Core.List.{List, [], _∷_}
+use lib.IntN.{ℤ}
+use Rattle.rules.specs.Refusal.{badLine, tooLong}
+use Rattle.grammar.specs.Row.{signed}
+use Rattle.grammar.specs.Form.{Kind, named}
+use Rattle.grammar.specs.Grammar.{Grammar, one, Contents}
+use Rattle.grammar.specs.Reading.{Reading, read, stopped, long, readText}
+use Rattle.weights_report.specs.declared.shifts.ShiftText.{ShiftText}
+use Rattle.weights_report.specs.declared.shifts.ShiftText.the-variants.{Given, Refused}
+
+-- `shift`, and a signed number
+abbrev pub shiftWord : List ℕ
+shiftWord = 115 ∷ 104 ∷ 105 ∷ 102 ∷ 116 ∷ []
+
+abbrev pub shiftLine : Kind
+shiftLine = named shiftWord (signed ∷ [])
+
+-- one shift line
+abbrev pub shiftGrammar : Grammar
+shiftGrammar = one shiftLine ∷ []
+
+abbrev pub shiftContents : ℤ → Contents shiftGrammar
+shiftContents x = ((x, tt), tt)
+
+-- ---- what is read
+
+unfoldable pub shiftBy : Reading (Contents shiftGrammar) → ShiftText
+shiftBy (read c) = Given (c .0 .0)
+shiftBy (stopped n) = Refused (badLine n)
+shiftBy long = Refused tooLong
+
+unfoldable pub shiftText : List ℕ → ShiftText
+shiftText s = shiftBy (readText shiftGrammar s)
