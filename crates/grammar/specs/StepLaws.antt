@@ -70,6 +70,19 @@ module _ (f : Form) (s : List ℕ) where
       go (found x next) i r = let a = form-ahead f x i in few-more (least f) at next (length (manyAt f fuel s next)) (length s) (a .0) (r next (a .2))
       go other n r = omega arith
 
+  -- wherever they begin
+  pub many-short : (fuel at : ℕ) → least f * length (manyAt f fuel s at) ≤ length s
+  unfolding manyAt
+  many-short zero at = omega arith
+  many-short (suc fuel) at = go (seen f s at) (looked s at f)
+    where
+      go : (y : Seen (Said f)) → Look s at f y → least f * length (onSeen y (λ x next. x ∷ manyAt f fuel s next) []) ≤ length s
+      go (found x next) i =
+          let a = form-ahead f x i in
+          let h = few-more (least f) at next (length (manyAt f fuel s next)) (length s) (a .0) (many-fit fuel next (a .2)) in
+          omega (arith, h)
+      go other n = omega arith
+
 -- ---- one block
 
 module _ (f : Form) (g : Grammar) (s : List ℕ) (at n : ℕ) where

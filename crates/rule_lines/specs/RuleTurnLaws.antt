@@ -16,7 +16,7 @@ use Rattle.grammar.specs.Row.{Field, number}
 use Rattle.grammar.specs.Form.{Says, line}
 use Rattle.grammar.specs.Reading.{Seen, found, other, onSeen, seen, manyAt, afterMany}
 use Rattle.grammar.specs.FormLaws.{least}
-use Rattle.grammar.specs.StepLaws.{line-reaches, many-fit}
+use Rattle.grammar.specs.StepLaws.{line-reaches, many-short}
 use Rattle.grammar.specs.TurnLaws.{ReadUpTo, read-up-start, read-up-more, read-up-done}
 use Rattle.text.specs.declared.lines.LineRead.{LineRead}
 use Rattle.text.specs.LineRead.{mostFields, placesOf, codes, lineReadAt}
@@ -198,6 +198,6 @@ module _ (s : List ℕ) (at first : ℕ) {r : RulesRead} (e : r ≡ rulesRead s 
       go (At p) h q = (q ∙ ap badLine (sym read-line-number), (p, ap (wordAt ruleWord s) read-next ∙ h))
       go Absent h q = absurd (n (ap (λ (x : Refusal). x .number) q))
 
-  pub read-few : at ≤ length s → length (manyAt (line ruleLine) (length s) s at) ≤ length s
+  pub read-few : r .line ≤ first + length s
   unfolding least
-  read-few h = omega (arith, many-fit (line ruleLine) s (length s) at h)
+  read-few = omega (arith, read-line-number, many-short (line ruleLine) s (length s) at)

@@ -18,14 +18,14 @@ use Rattle.grammar.specs.Clear.{Clear}
 use Rattle.grammar.specs.Size.{maxText}
 use Rattle.grammar.specs.Reading.{found, other, seen, manyAt, afterMany}
 use Rattle.grammar.specs.Reading.{Reading, read, stopped, long, also, readAt, readText}
-use Rattle.grammar.specs.StepLaws.{read-line, read-other, read-many, read-end, read-more, other-word, line-reaches}
+use Rattle.grammar.specs.StepLaws.{read-line, read-other, read-many, read-end, read-more, other-word}
 use Rattle.text.specs.declared.lines.LineRead.{LineRead}
 use Rattle.text.specs.LineRead.{mostFields, placesOf, codes, lineReadAt}
 use Rattle.text.specs.LineReadLaws.{SeenLine, line-seen, line-none, codes-numbers, places-full}
 use Rattle.rule_lines.specs.declared.rule_lines.RulesRead.{RulesRead}
 use Rattle.rule_lines.specs.Rules.{ruleWord, ruleLine, rulesSaid, ruleListOf, rulesRead}
 use Rattle.rule_lines.specs.RulesLaws.{said-length}
-use Rattle.rule_lines.specs.RuleTurnLaws.{read-list, read-next, read-line-number, read-refused, read-few}
+use Rattle.rule_lines.specs.RuleTurnLaws.{read-list, read-next, read-line-number, read-refused}
 use Rattle.table_text.specs.declared.TableText.{TableText}
 use Rattle.table_text.specs.TableGrammar.{weightsWord, weightsLine, horizonWord, horizonLine, tableGrammar}
 use Rattle.table_text.specs.TableText.{refusedTable, readTable, tableOf, tableText}
@@ -68,10 +68,6 @@ module _ (s : List ℕ) (short : length s ≤ maxText) {f : LineRead} (fe : f �
 
     rows : List (Says ruleLine)
     rows = manyAt (line ruleLine) (length s) s at
-
-    pub few : r .line ≤ 2 + length s
-    unfolding rows
-    few = omega (arith, read-line-number s at 2 re, read-few s at 2 re (line-reaches (line weightsLine) s 0 (w .is) .2))
 
     behind : readText tableGrammar s ≡ also (w .row) (also rows (readAt (one horizonLine ∷ []) s (r .next) (r .line)))
     unfolding readText rows

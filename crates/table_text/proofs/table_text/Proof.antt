@@ -2,7 +2,8 @@
 use borrow.Author.Needs.{needs}
 use native.Mathlib.Omega.{arith}
 use mathlib.Core.Path.{_∙_}
-use Rattle.table_text.specs.TableTextLaws.{too-long, other-first, few, bad-rule, other-last, goes-on, whole}
+use Rattle.rule_lines.specs.RuleTurnLaws.{read-few}
+use Rattle.table_text.specs.TableTextLaws.{too-long, other-first, bad-rule, other-last, goes-on, whole}
 use Rattle.table_text.proofs.table_text.Statement.{statement}
 use Rattle.table_text.proofs.table_text.Tie as tie
 
@@ -76,9 +77,7 @@ returns-4 c =
 add-refused-table : tie.Need-add-refused-table
 add-refused-table c =
     let r = c .before .before .before .before .before .before .before .before .before .before in
-    let b = r .before .before in
-    let f = few _ (omega arith) (b .before .before .line-at .ensures) (b .behind .given .1) (r .read-rules .ensures) in
-    omega (arith, f)
+    omega (arith, read-few _ _ _ (r .read-rules .ensures))
 
 refused-table-requires-5 : tie.Need-refused-table-requires-5
 refused-table-requires-5 c κs = search needs

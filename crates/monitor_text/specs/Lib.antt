@@ -1,0 +1,7 @@
+-- The monitor program's text: definitions and laws.
+pub mod Readings
+pub mod ReadingsLaws
+pub mod MonitorGrammar
+pub mod MonitorText
+pub mod PointTurnLaws
+pub mod MonitorTextLaws

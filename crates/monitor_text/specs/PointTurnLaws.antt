@@ -1,0 +1,119 @@
+-- The turns of the loop over the point lines. Laws.
+use Prim.Native.Nat.{ℕ, suc, _+_, _≤_, _<_}
+use mathlib.Core.Path.{_≡_, refl, sym, ap, _∙_}
+use mathlib.Core.Bool.{Bool, true, false, cond}
+use mathlib.Core.List.{List, [], _∷_, _++_}
+use native.Mathlib.Omega.{arith}
+use lib.Dec.{ltb}
+use lib.ListN.{length, getD, length-append}
+use borrow.Author.Tests.{ltb-true, ltb-false, lt-ltb, le-ltb}
+use Rattle.decimal.specs.declared.word.Found.the-variants.{At, Absent}
+use Rattle.grammar.specs.Row.{number, signed}
+use Rattle.grammar.specs.Form.{Says, line}
+use Rattle.grammar.specs.Reading.{found, other, seen, manyAt, afterMany}
+use Rattle.grammar.specs.StepLaws.{line-reaches}
+use Rattle.grammar.specs.TurnLaws.{ReadUpTo, read-up-start, read-up-more, read-up-done}
+use Rattle.text.specs.declared.lines.LineRead.{LineRead}
+use Rattle.text.specs.LineRead.{placesOf, codes, lineReadAt}
+use Rattle.text.specs.LineReadLaws.{SeenLine, line-seen, line-none}
+use Rattle.monitor_text.specs.declared.point_lines.PointsRead.{PointsRead}
+use Rattle.monitor_text.specs.Readings.{NodeReading, nodeCount, benchPoints}
+use Rattle.monitor_text.specs.ReadingsLaws.{bench-most}
+use Rattle.monitor_text.specs.MonitorGrammar.{pointWord, pointLine, pointSaid, pointRows, pointsSaid}
+use Rattle.monitor_text.specs.MonitorText.{benchMore, pointsRead}
+
+-- ---- points and the lines that say them
+
+pub said-rows : (ps : List NodeReading) → pointsSaid (pointRows ps) ≡ ps
+unfolding pointsSaid pointRows
+said-rows [] = refl
+said-rows (p ∷ ps) = ap (λ (l : List NodeReading). p ∷ l) (said-rows ps)
+
+pub rows-said : (xs : List (Says pointLine)) → pointRows (pointsSaid xs) ≡ xs
+unfolding pointsSaid pointRows
+rows-said [] = refl
+rows-said (x ∷ xs) = ap (λ (l : List (Says pointLine)). x ∷ l) (rows-said xs)
+
+pub said-length : (xs : List (Says pointLine)) → length (pointsSaid xs) ≡ length xs
+unfolding pointsSaid
+said-length [] = refl
+said-length (x ∷ xs) = omega (arith, said-length xs)
+
+pub said-snoc : (xs : List (Says pointLine)) (x : Says pointLine) → pointsSaid (xs ++ (x ∷ [])) ≡ pointsSaid xs ++ (pointSaid x ∷ [])
+unfolding pointsSaid
+said-snoc [] x = refl
+said-snoc (y ∷ xs) x = ap (λ (l : List NodeReading). pointSaid y ∷ l) (said-snoc xs x)
+
+-- ---- one point more
+
+suc-more : (n good node : ℕ) → suc (benchMore n good node) ≡ benchMore (suc n) (suc good) node
+suc-more n good node = go (ltb good n) refl (ltb node nodeCount)
+  where
+    go : (a : Bool) → ltb good n ≡ a → (b : Bool) → suc (cond a good (cond b (n + 1) n)) ≡ cond (ltb (suc good) (suc n)) (suc good) (cond b (suc n + 1) (suc n))
+    go true e b = let l = ltb-true good n e in rw (lt-ltb (suc good) (suc n) (omega arith))
+    go false e true = let l = ltb-false good n e in rw (le-ltb (suc good) (suc n) (omega arith)) (omega arith)
+    go false e false = let l = ltb-false good n e in rw (le-ltb (suc good) (suc n) (omega arith))
+
+pub bench-snoc : (ps : List NodeReading) (p : NodeReading) → benchPoints (ps ++ (p ∷ [])) ≡ benchMore (length ps) (benchPoints ps) (p .node)
+unfolding benchPoints
+bench-snoc [] p = refl
+bench-snoc (q ∷ ps) p = go (ltb (q .node) nodeCount) (bench-snoc ps p)
+  where
+    go : (b : Bool) → benchPoints (ps ++ (p ∷ [])) ≡ benchMore (length ps) (benchPoints ps) (p .node)
+        → cond b (suc (benchPoints (ps ++ (p ∷ [])))) 0 ≡ benchMore (suc (length ps)) (cond b (suc (benchPoints ps)) 0) (p .node)
+    go true e = ap suc e ∙ suc-more (length ps) (benchPoints ps) (p .node)
+    go false e = rw (lt-ltb 0 (suc (length ps)) (omega arith))
+
+-- ---- the loop
+
+-- `count` point lines stand from `at` on up to the line at i, and `good` of them come before the first whose node is over the last one
+pub record PointsUpTo (s : List ℕ) (at count good i : ℕ) : Type 0 where
+  pub rows : List (Says pointLine)
+  pub upto : ReadUpTo (line pointLine) s at rows i
+  pub counted : count ≡ length rows
+  pub bench : good ≡ benchPoints (pointsSaid rows)
+
+pub points-start : (s : List ℕ) (at : ℕ) → PointsUpTo s at 0 0 at
+unfolding pointsSaid benchPoints
+points-start s at = record { rows = []; upto = read-up-start (line pointLine) s at; counted = refl; bench = refl }
+
+module _ {s : List ℕ} {at count good i : ℕ} (u : PointsUpTo s at count good i) where
+  pub points-most : (good ≤ count) × (count ≤ length s)
+  points-most =
+      (omega (arith, u .counted, u .bench, said-length (u .rows), bench-most (pointsSaid (u .rows))), omega (arith, u .counted, u .upto .fit))
+
+  module _ {l : LineRead} (e : l ≡ lineReadAt pointWord (number ∷ signed ∷ []) s i) where
+    module _ {next : ℕ} (q : l .next ≡ At next) where
+      x : SeenLine pointWord (number ∷ signed ∷ []) s i l next
+      x = line-seen pointWord (number ∷ signed ∷ []) s i e q
+
+      node-is : getD (l .values) 0 0 ≡ x .row .0
+      unfolding placesOf codes
+      node-is = ap (λ (v : List ℕ). getD v 0 0) (x .values)
+
+      pub point-ahead : (i < next) × (next ≤ length s)
+      point-ahead = let a = line-reaches (line pointLine) s i (x .is) in (a .1, a .2)
+
+      pub points-more : {good′ : ℕ} → good′ ≡ benchMore count good (getD (l .values) 0 0) → PointsUpTo s at (count + 1) good′ next
+      points-more {good′} g =
+          let n : length (pointsSaid (u .rows)) ≡ count = said-length (u .rows) ∙ sym (u .counted) in
+          record {
+            rows = u .rows ++ (x .row ∷ []);
+            upto = read-up-more (x .is) (u .upto);
+            counted = omega (arith, u .counted, length-append (u .rows) (x .row ∷ []));
+            bench =
+                g ∙ ap (λ (k : ℕ). benchMore count good k) node-is
+                ∙ ap (λ (k : ℕ). benchMore count k (x .row .0)) (u .bench)
+                ∙ ap (λ (k : ℕ). benchMore k (benchPoints (pointsSaid (u .rows))) (x .row .0)) (sym n)
+                ∙ sym (bench-snoc (pointsSaid (u .rows)) (pointSaid (x .row)))
+                ∙ sym (ap benchPoints (said-snoc (u .rows) (x .row)));
+          }
+
+    -- the line at i is no point line
+    pub points-done : l .next ≡ Absent → _≡_ {A = PointsRead} (record { count = count; good = good; next = i }) (pointsRead s at)
+    unfolding pointsRead
+    points-done q =
+        let d = read-up-done (line-none pointWord (number ∷ signed ∷ []) s i e q) (u .upto) in
+        let c : count ≡ length (manyAt (line pointLine) (length s) s at) = u .counted ∙ ap length (d .0) in
+        let b : good ≡ benchPoints (pointsSaid (manyAt (line pointLine) (length s) s at)) = u .bench ∙ ap (λ (xs : List (Says pointLine)). benchPoints (pointsSaid xs)) (d .0) in
+        rw (← c, ← b, ← (d .1))
