@@ -5,12 +5,13 @@ use mathlib.Core.List.{List, [], _++_}
 use lib.ListN.{length, getD}
 use lib.IntN.{ℤ}
 use Rattle.rules.specs.declared.Rule.{Rule}
-use Rattle.text.specs.Size.{minPoint}
 use Rattle.write.specs.Wrote.{Wrote}
-use Rattle.parse.specs.Readings.{NodeReading, pointsAt, nodeCount, OnBench, readingsOf}
+use Rattle.monitor_text.specs.Readings.{NodeReading, nodeCount, OnBench, readingsOf}
+use Rattle.monitor_text.specs.MonitorText.{pointsAt}
+use Rattle.monitor_text.specs.PointTurnLaws.{pointsBy}
 use Rattle.monitor_report.specs.MonitorLines.{pointRoom}
 use Rattle.monitor_report.specs.declared.nodes.Node.{Node}
-use Rattle.monitor_report.specs.Points.{benchAnswers, answerLines}
+use Rattle.monitor_report.specs.Points.{minPoint, benchAnswers, answerLines}
 use Rattle.monitor.specs.Zones.{zonesOf}
 use Rattle.monitor_report.specs.Nodes.{freshNode, takenChart, nodeAfter}
 
@@ -25,8 +26,8 @@ pub record BenchWritten (s : List ℕ) (at : ℕ) (rs : List Rule) (centre : ℤ
   pub fuel : ℕ
   pub enough : length s ≤ i + fuel
   pub done : List NodeReading
-  pub whole : done ++ pointsAt fuel s i ≡ pointsAt (length s) s at
-  pub bench : OnBench (pointsAt fuel s i)
+  pub whole : done ++ pointsBy fuel s i ≡ pointsAt s at
+  pub bench : OnBench (pointsBy fuel s i)
   pub nodes-are : NodesAre rs centre sigma done nodes
   pub slots : length nodes ≡ nodeCount
   pub ahead : minPoint * length done ≤ i

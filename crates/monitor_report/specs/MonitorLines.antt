@@ -29,8 +29,8 @@ unfoldable pub signalLine : ℕ → ℕ → ℕ → ℕ → List ℕ
 signalLine node n mask period = signalWord ++ field node ++ field n ++ field mask ++ field period ++ newline
 
 -- the line of a point: quiet where no rule holds
-unfoldable pub pointLine : PointLine → List ℕ
-pointLine p = cond (eqb (p .mask) 0) (quietLine (p .node) (p .count) (p .period)) (signalLine (p .node) (p .count) (p .mask) (p .period))
+unfoldable pub pointBytes : PointLine → List ℕ
+pointBytes p = cond (eqb (p .mask) 0) (quietLine (p .node) (p .count) (p .period)) (signalLine (p .node) (p .count) (p .mask) (p .period))
 
 -- total,node,points,signals
 unfoldable pub totalLine : ℕ → ℕ → ℕ → List ℕ

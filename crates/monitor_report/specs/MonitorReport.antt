@@ -11,8 +11,8 @@ use Rattle.monitor.specs.Zone.{minSigma, maxSigma}
 use Rattle.monitor.specs.Step.{freshMonitor}
 use Rattle.window.specs.ReferenceChart.{Answer}
 use Rattle.monitor.specs.Calls.{monitorAnswers}
-use Rattle.parse.specs.declared.monitors.MonitorText.{MonitorText}
-use Rattle.parse.specs.MonitorText.{monitorText, monitorPoints}
+use Rattle.monitor_text.specs.declared.monitors.MonitorText.{MonitorText}
+use Rattle.monitor_text.specs.MonitorText.{monitorText, monitorPoints}
 use Rattle.write.specs.Printed.{Printed, printedBy}
 use Rattle.monitor_report.specs.Points.{benchBytes}
 use Rattle.monitor.specs.Zones.{zonesOf}

@@ -1,23 +1,21 @@
 -- What the monitor program prints, case by case; and that none of its points is refused.
 use Prim.Native.Nat.{ℕ, zero, suc, _+_, _*_, _≤_}
 use mathlib.Core.Path.{_≡_, refl}
-use mathlib.Core.Bool.{Bool, true, false, cond}
+use mathlib.Core.Bool.{true, false}
 use mathlib.Core.List.{List, [], _∷_, _++_}
 use native.Mathlib.Omega.{arith}
 use lib.IntN.{ℤ}
 use lib.ListN.{length, length-append}
-use lib.Dec.{leb, ltb}
-use borrow.Author.Tests.{leb-true, ltb-false, eq-eqb, ne-eqb}
-use Rattle.rules.specs.declared.Rule.{Rule}
+use borrow.Author.Tests.{eq-eqb, ne-eqb}
 use Rattle.rules.specs.declared.RuleList.{RuleList}
 use Rattle.rules.specs.declared.refusal.Refusal.{Refusal}
 use Rattle.rules.specs.declared.Checked.{Checked}
 use Rattle.rules.specs.declared.Checked.the-variants.{Accepted}
 use Rattle.rules.specs.Check.{activeRules, checkOf, within}
 use Rattle.rules.specs.CheckLaws.{accepted}
-use Rattle.rules.specs.Refusal.{badSigma, badLine, tooLong, badNode}
+use Rattle.rules.specs.Refusal.{badSigma}
 use Rattle.monitor.specs.Zone.{minSigma, maxSigma}
-use Rattle.text.specs.Size.{maxText, minPoint}
+use Rattle.grammar.specs.Size.{maxText}
 use Rattle.rules.specs.Bounds.{maxNumber}
 use Rattle.monitor.specs.Step.{freshMonitor}
 use Rattle.window.specs.ReferenceChart.{Answer}
@@ -26,19 +24,17 @@ use Rattle.monitor.specs.Agreement.{no-refused-call}
 use Rattle.monitor.specs.Take.{takenAnswers}
 use Rattle.monitor.specs.TakeLaws.{taken-answers}
 use Rattle.window.specs.GivenLaws.{fresh-valid}
-use Rattle.text.specs.Line.{lineAt}
-use Rattle.text.specs.OnLine.{onChart}
-use Rattle.text.specs.KindLaws.{chart-or-none, chart-passed}
 use Rattle.write.specs.Wrote.{Wrote}
-use Rattle.rule_lines.specs.Rules.{rulesAt, afterRules}
-use Rattle.parse.specs.declared.monitors.MonitorText.{MonitorText}
-use Rattle.parse.specs.Readings.{NodeReading, pointsAt, afterPoints, nodeCount, OnBench, benchPoints, readingsOf}
-use Rattle.parse.specs.ReadingsLaws.{points-fit, all-bench, readings-few}
-use Rattle.parse.specs.MonitorText.{refusedMonitor, readMonitor, monitorBy, monitorEnd, monitorText}
+use Rattle.monitor_text.specs.declared.monitors.MonitorText.{MonitorText}
+use Rattle.monitor_text.specs.Readings.{NodeReading, nodeCount, OnBench, readingsOf}
+use Rattle.monitor_text.specs.ReadingsLaws.{readings-few}
+use Rattle.monitor_text.specs.MonitorText.{pointsAt, monitorText}
+use Rattle.monitor_text.specs.PointTurnLaws.{points-fit}
+use Rattle.monitor_text.specs.AcceptedLaws.{ReadMonitor, read-monitor}
 use Rattle.write.specs.declared.ReportAnswer.the-variants.{Written, Refused}
 use Rattle.write.specs.Printed.{report, reportOf}
 use Rattle.write.specs.PrintedLaws.{as-written}
-use Rattle.monitor_report.specs.Points.{benchAnswers, benchTotals, benchBytes}
+use Rattle.monitor_report.specs.Points.{minPoint, benchAnswers, benchTotals, benchBytes}
 use Rattle.monitor.specs.Zones.{zonesOf}
 use Rattle.monitor.specs.ZonesLaws.{zones-exist, zones-length}
 use Rattle.monitor_report.specs.Nodes.{takenChart}
@@ -79,49 +75,6 @@ module _ {chart chart′ : List ℤ → List Answer} {n : ℕ} (same : (xs : Lis
 
 -- ---- the report of a text
 
--- a text that is not refused is no longer than the most
-read-short : (s : List ℕ) → monitorText s .refusal .number ≡ 0 → length s ≤ maxText
-unfolding monitorText refusedMonitor
-read-short s z = go (leb (length s) maxText) refl
-  where
-    go : (t : Bool) → leb (length s) maxText ≡ t → length s ≤ maxText
-    go true e = leb-true (length s) maxText e
-    go false e = let z′ = rw e at z in absurd (omega arith)
-
--- and every node of it is one of the bench's
-abbrev Benched : List ℕ → MonitorText → Type 0
-Benched s t = t .refusal .number ≡ 0 → OnBench (pointsAt (length s) s (t .points))
-
-module _ (s : List ℕ) where
-  behind-rules : (c : ℤ) (d : ℕ) (rs : List Rule) (at : ℕ) → Benched s (monitorEnd s c d rs at)
-  unfolding monitorEnd monitorBy refusedMonitor readMonitor
-  behind-rules c d rs at = go (leb (length s) (afterPoints (length s) s at)) (ltb (benchPoints ps) (length ps)) refl
-    where
-      ps : List NodeReading
-      ps = pointsAt (length s) s at
-
-      go : (a b : Bool) → ltb (benchPoints ps) (length ps) ≡ b
-          → Benched s (cond a (cond b (refusedMonitor (badNode (2 + length rs + benchPoints ps))) (readMonitor c d rs at ps)) (refusedMonitor (badLine (2 + length rs + length ps))))
-      go true true e z = absurd (omega arith)
-      go true false e z = all-bench ps (ltb-false _ _ e)
-      go false b e z = absurd (omega arith)
-
-  first-line : Benched s (onChart (lineAt s 0) (λ c d at. monitorEnd s c d (rulesAt (length s) s at) (afterRules (length s) s at)) (refusedMonitor (badLine 1)))
-  unfolding refusedMonitor
-  first-line =
-      chart-or-none (lineAt s 0)
-      (λ c d at e. rw e (behind-rules c d (rulesAt (length s) s at) (afterRules (length s) s at)))
-      (λ n. rw (chart-passed (lineAt s 0) _ _ n) (λ z. absurd (omega arith)))
-
-  read-bench : Benched s (monitorText s)
-  unfolding monitorText refusedMonitor
-  read-bench = go (leb (length s) maxText)
-    where
-      go : (b : Bool) → Benched s (cond b (onChart (lineAt s 0) (λ c d at. monitorEnd s c d (rulesAt (length s) s at) (afterRules (length s) s at))
-          (refusedMonitor (badLine 1))) (refusedMonitor tooLong))
-      go true z = first-line z
-      go false z = absurd (omega arith)
-
 module _ (s out : List ℕ) (t : MonitorText) (is : t ≡ monitorText s) where
   pub monitor-refused : (t .refusal .number ≡ 0 → ⊥) → report (Refused (t .refusal)) out ≡ reportOf (monitorPrinted s) out
   unfolding monitorPrinted
@@ -138,21 +91,24 @@ module _ (s out : List ℕ) (t : MonitorText) (is : t ≡ monitorText s) where
       sigma-refused h = rw (← is, eq-eqb (t .refusal .number) 0 read, ok, h)
 
       module _ (fits : within minSigma maxSigma (t .sigma) ≡ true) where
+        text-read : ReadMonitor s
+        text-read = read-monitor s (rw (← is) read)
+
         pub text-short : length s ≤ maxText
-        text-short = read-short s (rw (← is) read)
+        text-short = text-read .short
 
-        pub points-bench : OnBench (pointsAt (length s) s (t .points))
-        points-bench = rw (← is) at (read-bench s (rw (← is) read))
+        pub points-bench : OnBench (pointsAt s (t .points))
+        points-bench = rw (is, text-read .points) (text-read .bench)
 
-        pub points-few : minPoint * length (pointsAt (length s) s (t .points)) ≤ length s
+        pub points-few : minPoint * length (pointsAt s (t .points)) ≤ length s
         points-few = points-fit (length s) s (t .points)
 
         pub points-written : {centre : ℤ} → centre ≡ t .centre → (out′ : List ℕ) (r : ℕ)
-            → Wrote out 0 out′ r (benchBytes (takenChart (activeRules (t .list)) centre (t .sigma)) (pointsAt (length s) s (t .points)))
+            → Wrote out 0 out′ r (benchBytes (takenChart (activeRules (t .list)) centre (t .sigma)) (pointsAt s (t .points)))
             → report (Written r) out′ ≡ reportOf (monitorPrinted s) out
         unfolding monitorPrinted
         points-written {centre} c out′ r w =
-            let ps : List NodeReading = pointsAt (length s) s (t .points) in
+            let ps : List NodeReading = pointsAt s (t .points) in
             let taken = taken-one-by-one (t .list) ok (t .centre) (t .sigma) in
             let bytes = bytes-same {n = maxNumber} taken ps (omega (arith, points-few, text-short)) in
             as-written {p = monitorPrinted s} out out′ r

@@ -4,11 +4,16 @@ use mathlib.Core.List.{List, [], _∷_, _++_}
 use lib.ListN.{length}
 use lib.IntN.{ℤ}
 use Rattle.window.specs.ReferenceChart.{Answer, refused, quiet, signal}
-use Rattle.text.specs.Size.{maxText, minPoint}
-use Rattle.parse.specs.Readings.{NodeReading, nodeCount, readingsOf}
+use Rattle.grammar.specs.FormLaws.{leastOf}
+use Rattle.grammar.specs.Size.{maxText}
+use Rattle.monitor_text.specs.MonitorGrammar.{pointLine}
+use Rattle.monitor_text.specs.Readings.{NodeReading, nodeCount, readingsOf}
 use Rattle.monitor_report.specs.MonitorLines.{quietLine, signalLine, pointRoom, totalLine, totalRoom}
 
--- the most points that a text can have, and the most bytes of their lines and the nodes' totals
+-- the fewest bytes of a point line, by its kind; the most points that a text can have; and the most bytes of their lines and the nodes' totals
+abbrev pub minPoint : ℕ
+minPoint = leastOf pointLine
+
 abbrev pub maxPoints : ℕ
 maxPoints = maxText / minPoint
 

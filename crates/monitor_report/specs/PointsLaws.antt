@@ -8,9 +8,7 @@ use native.Mathlib.Omega.{arith}
 use lib.Dec.{eqb}
 use lib.ListN.{length, getD, set, replicate, length-append, length-set}
 use lib.Seq.{getD-set-same, getD-set-other}
-use lib.IntN.{ℤ, pos, negsuc, _-ℤ_}
-use mir.Val.{SFits}
-use mir.Syntax.{w32}
+use lib.IntN.{ℤ, _-ℤ_}
 use Rattle.rules.specs.declared.Rule.{Rule}
 use Rattle.rules.specs.Bounds.{maxNumber}
 use Rattle.rules.specs.InBounds.{AllInBounds}
@@ -19,17 +17,17 @@ use Rattle.window.specs.State.{validState}
 use Rattle.monitor.specs.Step.{freshMonitor}
 use Rattle.window.specs.ReferenceChart.{Answer, quiet, signal}
 use Rattle.monitor.specs.Take.{maskAnswer, takenAnswers}
-use Rattle.text.specs.declared.lines.Line.the-variants.{Point}
-use Rattle.text.specs.Line.{lineAt}
-use Rattle.text.specs.LineLaws.{line-stands, point-ahead}
-use Rattle.decimal.specs.Fields.{InSigned}
-use Rattle.text.specs.Kind.{point, NotOf}
-use Rattle.text.specs.Size.{maxText}
+use Rattle.grammar.specs.Form.{line}
+use Rattle.grammar.specs.Reading.{found, other, seen}
+use Rattle.grammar.specs.Size.{maxText}
 use Rattle.write.specs.Wrote.{Wrote}
 use Rattle.write.specs.WroteLaws.{wrote-nothing, wrote-length, then}
-use Rattle.parse.specs.Readings.{NodeReading, nodeReading, pointsAt, nodeCount, OnBench, readingsOf}
-use Rattle.parse.specs.ReadingsLaws.{one-point, no-points, readings-append, reading-own, reading-other, readings-few}
-use Rattle.monitor_report.specs.MonitorLines.{quietLine, signalLine, pointLine, pointRoom}
+use Rattle.monitor_text.specs.Readings.{NodeReading, nodeReading, nodeCount, OnBench, readingsOf}
+use Rattle.monitor_text.specs.MonitorGrammar.{pointLine}
+use Rattle.monitor_text.specs.MonitorText.{pointsAt}
+use Rattle.monitor_text.specs.PointTurnLaws.{pointsBy, one-point, no-points, seen-ahead}
+use Rattle.monitor_text.specs.ReadingsLaws.{readings-append, reading-own, reading-other, readings-few}
+use Rattle.monitor_report.specs.MonitorLines.{quietLine, signalLine, pointBytes, pointRoom}
 use Rattle.monitor_report.specs.declared.nodes.Node.{Node}
 use Rattle.monitor_report.specs.declared.nodes.NodePoint.{NodePoint}
 use Rattle.monitor_report.specs.Points.{NodeAnswer, nodeAnswer, lastAnswer, pointAnswer, benchAnswers, signalsIn, benchTotals}
@@ -69,8 +67,8 @@ lines-append (x ∷ xs) ys =
 
 -- the line of a mask and a count is that of the answer which they say
 mask-line : (node mask count period : ℕ)
-    → pointLine (record { node = node; count = count; mask = mask; period = period }) ≡ lineOf node (maskAnswer mask count) period
-unfolding pointLine
+    → pointBytes (record { node = node; count = count; mask = mask; period = period }) ≡ lineOf node (maskAnswer mask count) period
+unfolding pointBytes
 mask-line node mask count period = go (eqb mask 0)
   where
     go : (b : Bool)
@@ -122,14 +120,6 @@ module _ (rs : List Rule) (centre : ℤ) (sigma : ℕ) (done : List NodeReading)
 taken-same : (rs : List Rule) {n n′ : Node} {z z′ : ℕ} → n ≡ n′ → z ≡ z′ → nodeTaken rs n z ≡ nodeTaken rs n′ z′
 taken-same rs e f = rw (e, f)
 
--- the reading of a point line fits 32 bits
-pub reading-fits : (s : List ℕ) (i node : ℕ) (x : ℤ) (next : ℕ) → lineAt s i ≡ Point node x next → SFits w32 x
-reading-fits s i node x next e = go x (line-stands s i (Point node x next) e tt .range .1)
-  where
-    go : (x : ℤ) → InSigned x → SFits w32 x
-    go (pos n) r = record { sfits = omega arith }
-    go (negsuc n) r = record { sfits = omega arith }
-
 -- fresh nodes
 pub slots-fresh : (m : ℕ) (n : Node) → n ≡ freshNode → (k : ℕ) → k < nodeCount → getD (replicate m n) k freshNode ≡ freshNode
 slots-fresh zero n e k l = refl
@@ -139,7 +129,7 @@ slots-fresh (suc m) n e (suc k) l = slots-fresh m n e k (omega arith)
 -- ---- the turns of the loop
 
 module _ {s : List ℕ} {at : ℕ} {rs : List Rule} {centre : ℤ} {sigma : ℕ} {before : List ℕ} where
-  pub written-start : OnBench (pointsAt (length s) s at) → (nodes : List Node) → ((k : ℕ) → k < nodeCount → getD nodes k freshNode ≡ freshNode)
+  pub written-start : OnBench (pointsAt s at) → (nodes : List Node) → ((k : ℕ) → k < nodeCount → getD nodes k freshNode ≡ freshNode)
       → length nodes ≡ nodeCount
       → BenchWritten s at rs centre sigma before before nodes at 0
   unfolding answerLines benchAnswers zonesOf readingsOf nodeAfter takenAfter takenAnswers signalsIn
@@ -161,15 +151,15 @@ module _ {s : List ℕ} {at : ℕ} {rs : List Rule} {centre : ℤ} {sigma : ℕ}
 
   module _ {after : List ℕ} {nodes : List Node} {i end : ℕ} (u : BenchWritten s at rs centre sigma before after nodes i end) where
     -- at a point line one of the points is still to come, and its node is one of the bench's
-    pub points-left : (node : ℕ) (x : ℤ) (next : ℕ) → lineAt s i ≡ Point node x next → length (u .done) + 1 ≤ length (pointsAt (length s) s at)
+    pub points-left : (node : ℕ) (x : ℤ) (next : ℕ) → seen (line pointLine) s i ≡ found (node, (x, tt)) next → length (u .done) + 1 ≤ length (pointsAt s at)
     points-left node x next e =
         let o = one-point (u .fuel) s i node x next e (u .enough) in
-        omega (arith, ap length (u .whole), length-append (u .done) (pointsAt (u .fuel) s i), ap length (o .2))
+        omega (arith, ap length (u .whole), length-append (u .done) (pointsBy (u .fuel) s i), ap length (o .2))
 
-    pub done-few : length (u .done) ≤ length (pointsAt (length s) s at)
-    done-few = omega (arith, ap length (u .whole), length-append (u .done) (pointsAt (u .fuel) s i))
+    pub done-few : length (u .done) ≤ length (pointsAt s at)
+    done-few = omega (arith, ap length (u .whole), length-append (u .done) (pointsBy (u .fuel) s i))
 
-    pub node-below : (node : ℕ) (x : ℤ) (next : ℕ) → lineAt s i ≡ Point node x next → node < nodeCount
+    pub node-below : (node : ℕ) (x : ℤ) (next : ℕ) → seen (line pointLine) s i ≡ found (node, (x, tt)) next → node < nodeCount
     unfolding OnBench
     node-below node x next e =
         let o = one-point (u .fuel) s i node x next e (u .enough) in
@@ -187,15 +177,15 @@ module _ {s : List ℕ} {at : ℕ} {rs : List Rule} {centre : ℤ} {sigma : ℕ}
         rw (u .nodes-are node below)
         ((omega (arith, small), omega (arith, small), omega (arith, small)), node-valid rs zs bounds (zones-exist centre sigma xs))
 
-    pub written-more : (node : ℕ) (x : ℤ) (next : ℕ) → lineAt s i ≡ Point node x next
+    pub written-more : (node : ℕ) (x : ℤ) (next : ℕ) → seen (line pointLine) s i ≡ found (node, (x, tt)) next
         → (z : ℕ) → z ≡ zoneAt (x -ℤ centre) sigma → (p : NodePoint) → p ≡ nodeTaken rs (getD nodes node freshNode) z
         → {after′ : List ℕ} (r : ℕ)
-        → Wrote after end after′ r (pointLine (record { node = node; count = p .count; mask = p .mask; period = p .period }))
+        → Wrote after end after′ r (pointBytes (record { node = node; count = p .count; mask = p .mask; period = p .period }))
         → r ≤ end + pointRoom
         → BenchWritten s at rs centre sigma before after′ (set nodes node (p .next)) next r
     unfolding OnBench nodeTaken nodeAfter
     written-more node x next e z ez p ep {after′} r w l =
-        let a = point-ahead s i node x next e in
+        let a = seen-ahead s i node x next e in
         let o = one-point (u .fuel) s i node x next e (u .enough) in
         let below = node-below node x next e in
         let one = nodeReading node x in
@@ -203,7 +193,7 @@ module _ {s : List ℕ} {at : ℕ} {rs : List Rule} {centre : ℤ} {sigma : ℕ}
         let count : length (u .done ++ (one ∷ [])) ≡ length (u .done) + 1 = length-append (u .done) (one ∷ []) in
         let own : p ≡ nodeTaken rs (nodeAfter rs zs) (zoneAt (x -ℤ centre) sigma) = ep ∙ taken-same rs (u .nodes-are node below) ez in
         let slot : node < length nodes = omega (arith, u .slots) in
-        let line : pointLine (record { node = node; count = p .count; mask = p .mask; period = p .period })
+        let line : pointBytes (record { node = node; count = p .count; mask = p .mask; period = p .period })
         ≡ lineOf node (answerAfter rs freshMonitor zs (zoneAt (x -ℤ centre) sigma)) (length zs + 1) = rw own (mask-line node _ _ _) in
         record {
           fuel = o .0;
@@ -221,8 +211,8 @@ module _ {s : List ℕ} {at : ℕ} {rs : List Rule} {centre : ℤ} {sigma : ℕ}
         }
 
     -- all the points are charted
-    all-done : NotOf point (lineAt s i) → u .done ≡ pointsAt (length s) s at
-    all-done none = let q = no-points (u .fuel) s i none in sym (append-nil (u .done)) ∙ (rw (q .0) at (u .whole))
+    all-done : seen (line pointLine) s i ≡ other → u .done ≡ pointsAt s at
+    all-done none = let q = no-points (u .fuel) s i none in sym (append-nil (u .done)) ∙ (rw q at (u .whole))
 
     totals-are : (n : ℕ) → n ≤ nodeCount → totalsOf nodes n ≡ benchTotals (takenChart rs centre sigma) (u .done) n
     unfolding totalsOf benchTotals
@@ -233,7 +223,7 @@ module _ {s : List ℕ} {at : ℕ} {rs : List Rule} {centre : ℤ} {sigma : ℕ}
         rw (totals-are n (omega arith), one)
 
     -- and the totals are written behind them
-    pub written-done : NotOf point (lineAt s i) → {after′ : List ℕ} (r : ℕ) → Wrote after end after′ r (totalLines (totalsOf nodes nodeCount))
-        → Wrote before 0 after′ r (benchBytes (takenChart rs centre sigma) (pointsAt (length s) s at))
+    pub written-done : seen (line pointLine) s i ≡ other → {after′ : List ℕ} (r : ℕ) → Wrote after end after′ r (totalLines (totalsOf nodes nodeCount))
+        → Wrote before 0 after′ r (benchBytes (takenChart rs centre sigma) (pointsAt s at))
     unfolding benchBytes
     written-done none r w = rw (← (all-done none), ← (totals-are nodeCount (omega arith))) (then (u .wrote) w)

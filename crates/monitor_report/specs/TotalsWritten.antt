@@ -8,7 +8,7 @@ use lib.ListN.{length, getD}
 use borrow.Author.Tests.{eq-eqb, ne-eqb}
 use Rattle.write.specs.Wrote.{Wrote}
 use Rattle.write.specs.WroteLaws.{wrote-nothing, wrote-length, then}
-use Rattle.parse.specs.Readings.{nodeCount}
+use Rattle.monitor_text.specs.Readings.{nodeCount}
 use Rattle.monitor_report.specs.MonitorLines.{totalLine, totalRoom}
 use Rattle.monitor_report.specs.declared.nodes.Node.{Node}
 use Rattle.monitor_report.specs.Points.{NodeTotal, totalLines}

@@ -14,8 +14,8 @@ pub use monitors::monitor_output;
 pub use monitors::monitor_report;
 
 // The most points that a text can have.
-pub const MAX_POINTS: usize = text::MAX_TEXT / text::MIN_POINT;
+pub const MAX_POINTS: usize = text::MAX_TEXT / monitor_text::MIN_POINT;
 
 // Room for the monitor program's lines: one for each point, and a total for each node.
 pub const MONITOR_SIZE: usize = crate::POINT_ROOM * MAX_POINTS
-    + crate::TOTAL_ROOM * parse::NODES as usize;
+    + crate::TOTAL_ROOM * monitor_text::NODES as usize;

@@ -5,7 +5,7 @@ use write::put_short_named;
 ghost use Prim.Native.Nat.{_+_, _≤_};
 ghost use lib.ListN.{length};
 ghost use Rattle.write.specs.Wrote.{Wrote};
-ghost use Rattle.monitor_report.specs.MonitorLines.{pointLine, pointRoom, totalLine, totalRoom};
+ghost use Rattle.monitor_report.specs.MonitorLines.{pointBytes, pointRoom, totalLine, totalRoom};
 
 // `signal`, four fields of 32 bits, LF: the longest line of a point.
 pub const POINT_ROOM: usize = 6 + 4 * write::SHORT_FIELD + 1;
@@ -24,7 +24,7 @@ pub struct PointLine {
 // The line `quiet,node,n,period` or `signal,node,n,mask,period`.
 pub fn put_point(out: &mut [u8], at: usize, line: PointLine) -> usize
     requires { ⌜ at + pointRoom ≤ length (now out) ⌝ }
-    ensures { λ r. ⌜ Wrote (now (out .entry)) at (now (out .exit)) r (pointLine line) ⌝ }
+    ensures { λ r. ⌜ Wrote (now (out .entry)) at (now (out .exit)) r (pointBytes line) ⌝ }
     ensures { λ r. ⌜ r ≤ at + pointRoom ⌝ }
 {
     if line.mask == 0 {

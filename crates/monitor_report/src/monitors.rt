@@ -16,7 +16,7 @@ ghost use Rattle.monitor_report.specs.MonitorReport.{monitorPrinted};
 pub fn monitor_report(text: &[u8], out: &mut [u8; MONITOR_SIZE]) -> ReportAnswer
     ensures { λ r. ⌜ report r (now (out .exit)) ≡ reportOf (monitorPrinted (now (text .entry))) (now (out .entry)) ⌝ }
 {
-    let read = parse::monitor_text(text);
+    let read = monitor_text::monitor_text(text);
     let refusal = read.refusal;
     if refusal.number != 0 {
         return ReportAnswer::Refused(refusal);

@@ -2,7 +2,7 @@
 use crate::TotalLine;
 use crate::put_total;
 use monitor::Monitor;
-use parse::NODES;
+use monitor_text::NODES;
 use rules::RuleList;
 ghost use mathlib.Core.Path.{_≡_};
 ghost use mathlib.Core.Bool.{true, cond};
@@ -14,7 +14,7 @@ ghost use Rattle.rules.specs.Check.{activeRules};
 ghost use Rattle.rules.specs.InBounds.{AllInBounds};
 ghost use Rattle.window.specs.State.{validState};
 ghost use Rattle.write.specs.Wrote.{Wrote};
-ghost use Rattle.parse.specs.Readings.{nodeCount};
+ghost use Rattle.monitor_text.specs.Readings.{nodeCount};
 ghost use Rattle.monitor_report.specs.MonitorLines.{totalRoom};
 ghost use Rattle.monitor_report.specs.Points.{totalLines};
 ghost use Rattle.monitor_report.specs.Nodes.{freshNode, nodeTaken, totalOf, totalsOf};

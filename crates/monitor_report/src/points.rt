@@ -4,11 +4,12 @@ use crate::nodes::chart_point;
 use crate::nodes::fresh_node;
 use crate::nodes::put_totals;
 use crate::put_point;
+use decimal::Found;
+use decimal::signed_value;
 use monitor::Chart;
 use monitor::zone::zone_at;
-use parse::NODES;
+use monitor_text::NODES;
 use rules::RuleList;
-use text::Line;
 use text::line_at;
 ghost use Prim.Native.Nat.{_+_, _*_, _≤_};
 ghost use lib.ListN.{length};
@@ -17,8 +18,9 @@ ghost use Rattle.rules.specs.Check.{activeRules};
 ghost use Rattle.rules.specs.InBounds.{AllInBounds};
 ghost use Rattle.monitor.specs.Zone.{minSigma, maxSigma};
 ghost use Rattle.write.specs.Wrote.{Wrote};
-ghost use Rattle.text.specs.Size.{maxText};
-ghost use Rattle.parse.specs.Readings.{pointsAt, nodeCount, OnBench};
+ghost use Rattle.grammar.specs.Size.{maxText};
+ghost use Rattle.monitor_text.specs.Readings.{nodeCount, OnBench};
+ghost use Rattle.monitor_text.specs.MonitorText.{pointsAt};
 ghost use Rattle.monitor_report.specs.MonitorLines.{pointRoom, totalRoom};
 ghost use Rattle.monitor_report.specs.Points.{benchBytes};
 ghost use Rattle.monitor_report.specs.Nodes.{takenChart};
@@ -34,24 +36,23 @@ pub(crate) fn put_points(
     requires { ⌜ (list .len ≤ maxRules) × AllInBounds (activeRules list) ⌝ }
     requires { ⌜ (minSigma ≤ chart .sigma) × (chart .sigma ≤ maxSigma) ⌝ }
     requires { ⌜ length (now text) ≤ maxText ⌝ }
-    requires { ⌜ OnBench (pointsAt (length (now text)) (now text) at) ⌝ }
-    requires { ⌜ pointRoom * length (pointsAt (length (now text)) (now text) at) + totalRoom * nodeCount ≤ length (now out) ⌝ }
+    requires { ⌜ OnBench (pointsAt (now text) at) ⌝ }
+    requires { ⌜ pointRoom * length (pointsAt (now text) at) + totalRoom * nodeCount ≤ length (now out) ⌝ }
     ensures { λ r. ⌜ Wrote (now (out .entry)) 0 (now (out .exit)) r
-        (benchBytes (takenChart (activeRules list) (chart .centre) (chart .sigma)) (pointsAt (length (now (text .entry))) (now (text .entry)) at)) ⌝ }
+        (benchBytes (takenChart (activeRules list) (chart .centre) (chart .sigma)) (pointsAt (now (text .entry)) at)) ⌝ }
 {
     let mut nodes = [fresh_node(); NODES as usize];
     let mut i = at;
     let mut end = 0;
     loop {
-        let Line::Point {
-            node,
-            reading,
-            next,
-        } = line_at(text, i)
-        else {
+        let read = line_at(text, i, b"point", b"ns");
+        let behind = read.next;
+        let Found::At(next) = behind else {
             return put_totals(out, end, nodes);
         };
-        let zone = zone_at(reading, chart.centre, chart.sigma);
+        let values = read.values;
+        let node = values[0];
+        let zone = zone_at(signed_value(values[1]), chart.centre, chart.sigma);
         let point = chart_point(nodes[node as usize], list, zone);
         let count = point.count;
         let mask = point.mask;

@@ -5,3 +5,4 @@ pub mod MonitorGrammar
 pub mod MonitorText
 pub mod PointTurnLaws
 pub mod MonitorTextLaws
+pub mod AcceptedLaws

@@ -1,23 +1,27 @@
 -- The turns of the loop over the point lines. Laws.
-use Prim.Native.Nat.{ℕ, suc, _+_, _≤_, _<_}
+use Prim.Native.Nat.{ℕ, suc, _+_, _*_, _≤_, _<_}
 use mathlib.Core.Path.{_≡_, refl, sym, ap, _∙_}
 use mathlib.Core.Bool.{Bool, true, false, cond}
 use mathlib.Core.List.{List, [], _∷_, _++_}
 use native.Mathlib.Omega.{arith}
 use lib.Dec.{ltb}
+use lib.IntN.{ℤ}
 use lib.ListN.{length, getD, length-append}
 use borrow.Author.Tests.{ltb-true, ltb-false, lt-ltb, le-ltb}
 use Rattle.decimal.specs.declared.word.Found.the-variants.{At, Absent}
-use Rattle.grammar.specs.Row.{number, signed}
+use Rattle.decimal.specs.Signed.{lowered}
+use Rattle.decimal.specs.SignedLaws.{lowered-raised}
+use Rattle.grammar.specs.Row.{number, signed, RowFits}
 use Rattle.grammar.specs.Form.{Says, line}
 use Rattle.grammar.specs.Reading.{found, other, seen, manyAt, afterMany}
-use Rattle.grammar.specs.StepLaws.{line-reaches}
+use Rattle.grammar.specs.FormLaws.{leastOf, least}
+use Rattle.grammar.specs.StepLaws.{line-reaches, one-of-many, none-of-many, many-short}
 use Rattle.grammar.specs.TurnLaws.{ReadUpTo, read-up-start, read-up-more, read-up-done}
 use Rattle.text.specs.declared.lines.LineRead.{LineRead}
 use Rattle.text.specs.LineRead.{placesOf, codes, lineReadAt}
 use Rattle.text.specs.LineReadLaws.{SeenLine, line-seen, line-none}
 use Rattle.monitor_text.specs.declared.point_lines.PointsRead.{PointsRead}
-use Rattle.monitor_text.specs.Readings.{NodeReading, nodeCount, benchPoints}
+use Rattle.monitor_text.specs.Readings.{NodeReading, nodeReading, nodeCount, benchPoints}
 use Rattle.monitor_text.specs.ReadingsLaws.{bench-most}
 use Rattle.monitor_text.specs.MonitorGrammar.{pointWord, pointLine, pointSaid, pointRows, pointsSaid}
 use Rattle.monitor_text.specs.MonitorText.{benchMore, pointsRead}
@@ -117,3 +121,47 @@ module _ {s : List ℕ} {at count good i : ℕ} (u : PointsUpTo s at count good 
         let c : count ≡ length (manyAt (line pointLine) (length s) s at) = u .counted ∙ ap length (d .0) in
         let b : good ≡ benchPoints (pointsSaid (manyAt (line pointLine) (length s) s at)) = u .bench ∙ ap (λ (xs : List (Says pointLine)). benchPoints (pointsSaid xs)) (d .0) in
         rw (← c, ← b, ← (d .1))
+
+-- ---- for those who read the points again
+
+-- what the parser gives is what is seen
+pub point-seen : (s : List ℕ) (i : ℕ) {l : LineRead} → l ≡ lineReadAt pointWord (number ∷ signed ∷ []) s i → {next : ℕ} → l .next ≡ At next
+    → seen (line pointLine) s i ≡ found (getD (l .values) 0 0, (lowered (getD (l .values) 1 0), tt)) next
+unfolding placesOf codes RowFits
+point-seen s i {l} e {next} q =
+    let x = line-seen pointWord (number ∷ signed ∷ []) s i e q in
+    let node : x .row .0 ≡ getD (l .values) 0 0 = sym (ap (λ (v : List ℕ). getD v 0 0) (x .values)) in
+    let reading : x .row .1 .0 ≡ lowered (getD (l .values) 1 0) =
+    sym (ap (λ (v : List ℕ). lowered (getD v 1 0)) (x .values) ∙ lowered-raised (x .row .1 .0) (x .fits .1 .0)) in
+    x .is ∙ (λ k. found (node k, (reading k, tt)) next)
+
+pub no-point-seen : (s : List ℕ) (i : ℕ) {l : LineRead} → l ≡ lineReadAt pointWord (number ∷ signed ∷ []) s i → l .next ≡ Absent
+    → seen (line pointLine) s i ≡ other
+no-point-seen s i e q = line-none pointWord (number ∷ signed ∷ []) s i e q
+
+-- the points of the lines from an offset on, with fuel enough
+abbrev pub pointsBy : ℕ → List ℕ → ℕ → List NodeReading
+pointsBy fuel s at = pointsSaid (manyAt (line pointLine) fuel s at)
+
+-- a point line: one point, and those behind it
+pub one-point : (fuel : ℕ) (s : List ℕ) (at node : ℕ) (x : ℤ) (next : ℕ) → seen (line pointLine) s at ≡ found (node, (x, tt)) next → length s ≤ at + fuel
+    → (f : ℕ) × (length s ≤ next + f) × (pointsBy fuel s at ≡ nodeReading node x ∷ pointsBy f s next)
+unfolding pointsSaid
+one-point fuel s at node x next e h =
+    let o = one-of-many (line pointLine) s fuel at e h in
+    (o .0, o .1, ap pointsSaid (o .2))
+
+-- another line: no points
+pub no-points : (fuel : ℕ) (s : List ℕ) (at : ℕ) → seen (line pointLine) s at ≡ other → pointsBy fuel s at ≡ []
+unfolding pointsSaid
+no-points fuel s at n = ap pointsSaid (none-of-many (line pointLine) s fuel at n .0)
+
+-- a point line reaches ahead by the fewest bytes that it can have, and not over the end
+pub seen-ahead : (s : List ℕ) (at node : ℕ) (x : ℤ) (next : ℕ) → seen (line pointLine) s at ≡ found (node, (x, tt)) next
+    → (at + leastOf pointLine ≤ next) × (next ≤ length s)
+unfolding least
+seen-ahead s at node x next e = let a = line-reaches (line pointLine) s at e in (a .0, a .2)
+
+pub points-fit : (fuel : ℕ) (s : List ℕ) (at : ℕ) → leastOf pointLine * length (pointsBy fuel s at) ≤ length s
+unfolding least
+points-fit fuel s at = omega (arith, many-short (line pointLine) s fuel at, said-length (manyAt (line pointLine) fuel s at))

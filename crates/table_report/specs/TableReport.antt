@@ -7,8 +7,8 @@ use lib.ListN.{replicate}
 use Rattle.table.specs.Table.{TableCall, tableCall}
 use Rattle.summary.specs.declared.SummaryAnswer.{SummaryAnswer}
 use Rattle.summary.specs.Summary.{SummaryResult, summaryOf}
-use Rattle.parse.specs.declared.tables.TableText.{TableText}
-use Rattle.parse.specs.TableText.{tableText}
+use Rattle.table_text.specs.declared.TableText.{TableText}
+use Rattle.table_text.specs.TableText.{tableText}
 use Rattle.table_lines.specs.TableLines.{tableBytes, maxRows}
 use Rattle.write.specs.Printed.{Printed, lines, refusedBy}
 

@@ -18,8 +18,8 @@ use Rattle.summary.specs.Summary.{SummaryResult, summaryResult, summaryOf}
 use Rattle.summary.specs.AcceptedSummary.{AcceptedSummary}
 use Rattle.summary.specs.SummaryLaws.{accepted-summary}
 use Rattle.write.specs.Wrote.{Wrote}
-use Rattle.parse.specs.declared.tables.TableText.{TableText}
-use Rattle.parse.specs.TableText.{tableText}
+use Rattle.table_text.specs.declared.TableText.{TableText}
+use Rattle.table_text.specs.TableText.{tableText}
 use Rattle.table_lines.specs.TableLines.{tableBytes, maxRows}
 use Rattle.write.specs.declared.ReportAnswer.the-variants.{Written, Refused}
 use Rattle.write.specs.Printed.{report, reportOf}

@@ -23,7 +23,7 @@ fn report_horizon(h: u32) -> u32
 pub fn table_report(text: &[u8], out: &mut [u8; TABLE_SIZE]) -> ReportAnswer
     ensures { λ r. ⌜ report r (now (out .exit)) ≡ reportOf (tablePrinted (now (text .entry))) (now (out .entry)) ⌝ }
 {
-    let read = parse::table_text(text);
+    let read = table_text::table_text(text);
     let refusal = read.refusal;
     if refusal.number != 0 {
         return ReportAnswer::Refused(refusal);

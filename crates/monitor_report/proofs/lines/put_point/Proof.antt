@@ -8,17 +8,17 @@ use borrow.Author.Tests.{eq-eqb, ne-eqb}
 use Rattle.write.specs.Wrote.{Wrote}
 use Rattle.write.specs.WroteLaws.{then}
 use Rattle.monitor_report.specs.declared.lines.PointLine.{PointLine}
-use Rattle.monitor_report.specs.MonitorLines.{quietLine, signalLine, pointLine}
+use Rattle.monitor_report.specs.MonitorLines.{quietLine, signalLine, pointBytes}
 use Rattle.monitor_report.proofs.lines.put_point.Statement.{statement}
 use Rattle.monitor_report.proofs.lines.put_point.Tie as tie
 
 module _ {a b : List ℕ} {i r : ℕ} (p : PointLine) where
-  wrote-quiet : p .mask ≡ 0 → Wrote a i b r (quietLine (p .node) (p .count) (p .period)) → Wrote a i b r (pointLine p)
-  unfolding pointLine
+  wrote-quiet : p .mask ≡ 0 → Wrote a i b r (quietLine (p .node) (p .count) (p .period)) → Wrote a i b r (pointBytes p)
+  unfolding pointBytes
   wrote-quiet e w = rw (eq-eqb (p .mask) 0 e) w
 
-  wrote-signal : (p .mask ≡ 0 → ⊥) → Wrote a i b r (signalLine (p .node) (p .count) (p .mask) (p .period)) → Wrote a i b r (pointLine p)
-  unfolding pointLine
+  wrote-signal : (p .mask ≡ 0 → ⊥) → Wrote a i b r (signalLine (p .node) (p .count) (p .mask) (p .period)) → Wrote a i b r (pointBytes p)
+  unfolding pointBytes
   wrote-signal n w = rw (ne-eqb (p .mask) 0 n) w
 
 slice-aggregate-put-short-named : tie.Need-slice-aggregate-put-short-named

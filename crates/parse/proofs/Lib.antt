@@ -1,5 +1,0 @@
-mod PointTurns
-mod PartCases
-mod TableCases
-mod MonitorCases
-mod ShiftCases
