@@ -18,7 +18,7 @@ tableNumbers = tooLong .number ∷ badLine 0 .number ∷ chartNumbers
 
 table-numbers : {s : List ℕ} {n p : ℕ} → TableRefusal s n p → OneOf tableNumbers n
 table-numbers (too-long l) = here refl
-table-numbers (bad-line front rest place l e st q) = there (here refl)
+table-numbers (bad-line place l st) = there (here refl)
 table-numbers (bad-table w rs h x is c o) = there (there o)
 
 -- A refusal that the table program prints has one of its numbers; so 5, 6, 7 and 11 to 15 are never printed.

@@ -9,10 +9,9 @@ use Rattle.rules.specs.declared.refusal.Refusal.{Refusal}
 use Rattle.rules.specs.declared.Checked.the-variants.{Accepted, Refused}
 use Rattle.rules.specs.Refusal.{badRuleCount, badRuleBounds, badZoneSet, badWeights, badHorizon, tooManyStates, badLine, tooLong}
 use Rattle.rules.specs.Numbers.{OneOf}
-use Rattle.rules.specs.declared.weights.ZoneWeights.{ZoneWeights}
-use Rattle.rules.specs.Weights.{weightList}
-use Rattle.text.specs.Size.{maxText}
-use Rattle.text.specs.Newlines.{newlines}
+use Rattle.grammar.specs.Grammar.{Stops}
+use Rattle.grammar.specs.Size.{maxText}
+use Rattle.table_text.specs.TableGrammar.{tableGrammar}
 use Rattle.rule_lines.specs.Rules.{ruleListOf}
 use Rattle.write.specs.Refused.{refusedLine}
 use Rattle.table_lines.specs.RowLine.{standingsLine, headerLine, rowLine, arlLine}
@@ -26,7 +25,7 @@ use Rattle.table.specs.Table.{chartCheck}
 use Rattle.bracket.specs.declared.Place.{Place}
 use Rattle.bracket.specs.Contains.{PlaceContains}
 use Rattle.claims.specs.Exact.{exactSum, exactMean, reached}
-use Rattle.table_claims.specs.TableTexts.{TableTextIs, TableStops}
+use Rattle.table_claims.specs.TableTexts.{TableTextIs}
 
 -- the numbers that a chart is refused by: 2, 3, 4; 8; 9; 10
 abbrev pub chartNumbers : List ℕ
@@ -89,10 +88,9 @@ pub record FiguresHold (w : List ℕ) (rs : List Rule) (h : ℕ) (f : Figures) :
 -- of the table operation's that applies
 pub data TableRefusal (s : List ℕ) : ℕ → ℕ → Type 0 where
   too-long : maxText < length s → TableRefusal s (tooLong .number) 0
-  bad-line : (front rest : List ℕ) (place : ℕ) → length s ≤ maxText → s ≡ front ++ rest → TableStops front rest → place ≡ 1 + newlines front
-      → TableRefusal s (badLine place .number) place
-  bad-table : (w : ZoneWeights) (rs : List Rule) (h : ℕ) (x : Refusal) → TableTextIs s w rs h
-      → chartCheck (ruleListOf rs) (weightList w) (reportHorizon h) ≡ Refused x
+  bad-line : (place : ℕ) → length s ≤ maxText → Stops tableGrammar s place → TableRefusal s (badLine place .number) place
+  bad-table : (w : List ℕ) (rs : List Rule) (h : ℕ) (x : Refusal) → TableTextIs s w rs h
+      → chartCheck (ruleListOf rs) w (reportHorizon h) ≡ Refused x
       → OneOf chartNumbers (x .number) → TableRefusal s (x .number) (x .place)
 
 -- what the table program prints for the text s
@@ -100,6 +98,6 @@ pub data TableProgram (s : List ℕ) (printed : List ℕ) : Type 0 where
   -- one refusal line, and the reason holds of the text
   refuses : (number place : ℕ) → printed ≡ refusedLine number place → TableRefusal s number place → TableProgram s printed
   -- the lines of figures that hold of the weights, rules and horizon whose lines the text is
-  prints : (w : ZoneWeights) (rs : List Rule) (h : ℕ) (f : Figures) → TableTextIs s w rs h
-      → h ≤ maxRows → chartCheck (ruleListOf rs) (weightList w) h ≡ Accepted
-      → printed ≡ figureLines h f → FiguresHold (weightList w) rs h f → TableProgram s printed
+  prints : (w : List ℕ) (rs : List Rule) (h : ℕ) (f : Figures) → TableTextIs s w rs h
+      → h ≤ maxRows → chartCheck (ruleListOf rs) w h ≡ Accepted
+      → printed ≡ figureLines h f → FiguresHold w rs h f → TableProgram s printed

@@ -8,8 +8,6 @@ use lib.Dec.{ltb}
 use lib.ListN.{getD}
 use borrow.Author.Tests.{ltb-true, ltb-false}
 use Rattle.rules.specs.declared.Rule.{Rule}
-use Rattle.rules.specs.declared.weights.ZoneWeights.{ZoneWeights}
-use Rattle.rules.specs.Weights.{weightList}
 use Rattle.decimal.specs.Fields.{field, fields}
 use Rattle.write.specs.Refused.{refusedLine}
 use Rattle.table_lines.specs.RowLine.{standingsLine, headerLine, rowLine, arlLine}
@@ -145,7 +143,7 @@ pub table-not-refused : (h : ℕ) (f : Figures) (n p : ℕ) → figureLines h f 
 unfolding figureLines standingsLine refusedLine
 table-not-refused h f n p e = let z : _≡_ {A = ℕ} 115 114 = ap (λ l. getD l 0 0) e in omega arith
 
-same-text : {s : List ℕ} {w : ZoneWeights} {rs : List Rule} {h h′ : ℕ} → h ≡ h′ → TableTextIs s w rs h → TableTextIs s w rs h′
+same-text : {s : List ℕ} {w : List ℕ} {rs : List Rule} {h h′ : ℕ} → h ≡ h′ → TableTextIs s w rs h → TableTextIs s w rs h′
 same-text e t = rw (← e) t
 
 same-rows : {w : List ℕ} {rs : List Rule} {h h′ : ℕ} {g : Figures} → h ≡ h′ → FiguresHold w rs h g → FiguresHold w rs h′ g
@@ -154,10 +152,10 @@ same-rows e t = rw (← e) t
 -- Whoever reads the table program's output as the lines of h rows of any numbers g reads numbers that hold, of the weights, the rules and the
 -- horizon h whose lines the text is.
 pub table-read-off : (s : List ℕ) (h : ℕ) (g : Figures) → printedBytes (tablePrinted s) ≡ figureLines h g
-    → (w : ZoneWeights) × (rs : List Rule) × TableTextIs s w rs h × FiguresHold (weightList w) rs h g
+    → (w : List ℕ) × (rs : List Rule) × TableTextIs s w rs h × FiguresHold w rs h g
 table-read-off s h g e = go (table-program s)
   where
-    go : TableProgram s (printedBytes (tablePrinted s)) → (w : ZoneWeights) × (rs : List Rule) × TableTextIs s w rs h × FiguresHold (weightList w) rs h g
+    go : TableProgram s (printedBytes (tablePrinted s)) → (w : List ℕ) × (rs : List Rule) × TableTextIs s w rs h × FiguresHold w rs h g
     go (refuses number place q r) = absurd (table-not-refused h g number place (sym e ∙ q))
     go (prints w rs k f is m ok q t) =
         let o = table-once k h f g (sym q ∙ e) in

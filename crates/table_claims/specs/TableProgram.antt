@@ -24,23 +24,27 @@ use Rattle.summary.specs.declared.SummaryAnswer.{SummaryAnswer}
 use Rattle.summary.specs.Summary.{summaryBy, summaryOf}
 use Rattle.summary.specs.AcceptedSummary.{AcceptedSummary}
 use Rattle.summary.specs.SummaryLaws.{accepted-summary, accepted-figures, refused-table}
-use Rattle.rules.specs.declared.weights.ZoneWeights.{ZoneWeights}
-use Rattle.rules.specs.Weights.{weightList}
-use Rattle.parse.specs.declared.tables.TableText.{TableText}
+use Rattle.table_text.specs.declared.TableText.{TableText}
 use Rattle.rule_lines.specs.Rules.{ruleListOf}
 use Rattle.rule_lines.specs.RulesLaws.{active-rules, rules-few}
-use Rattle.parse.specs.TableText.{refusedTable, readTable, tableText}
+use Rattle.table_text.specs.TableText.{refusedTable, readTable, tableGiven, tableText}
 use Rattle.table_lines.specs.RowLine.{rowLine, tableRows}
 use Rattle.table_lines.specs.PercentLine.{percentLines}
 use Rattle.table_lines.specs.TableLines.{tableBytes, maxRows}
 use Rattle.write.specs.Printed.{refusedBy, printedBytes}
 use Rattle.table_report.specs.TableReport.{reportHorizon, reportCall, tableLines, linesOf, blank, tablePrinted}
 use Rattle.table_report.specs.TableReportLaws.{horizon-small}
+use Rattle.grammar.specs.Grammar.{Contents}
+use Rattle.grammar.specs.Reading.{Reading, readText}
+use Rattle.grammar.specs.Read.{ReadingIs, too-long, wrong, right}
+use Rattle.grammar.specs.GrammarLaws.{reading-is}
+use Rattle.table_text.specs.TableGrammar.{tableGrammar}
+use Rattle.table_text.specs.TableTextLaws.{clear-table}
 use Rattle.claims.specs.Exact.{reached}
 use Rattle.claims.specs.ContainsLaws.{call-contains}
 use Rattle.claims.specs.Demand3.{cdf-bounds, mean-bounds}
-use Rattle.table_claims.specs.TableTexts.{TableTextIs, TableReading, too-long, stopped, read}
-use Rattle.table_claims.specs.TableBytes.{table-reading, table-read, table-text-once, table-stopped, table-too-long as text-too-long}
+use Rattle.table_claims.specs.TableTexts.{TableTextIs}
+use Rattle.table_claims.specs.TableBytes.{weightsIn, rulesIn, horizonIn, table-is, table-read, table-text-once, table-stopped, table-too-long as text-too-long}
 use Rattle.table_claims.specs.TableOutput.{rows, Figures, figureLines, FiguresHold, TableProgram, bad-table}
 use Rattle.table_claims.specs.TableOutput.{refuses as table-refuses, prints as table-prints, too-long as table-too-long, bad-line as table-bad-line}
 use Rattle.table_claims.specs.RefusalLaws.{chart-number}
@@ -125,9 +129,9 @@ same-figures-for o p q t = rw (← o, ← p, ← q) t
 same-check : (l : RuleList) (w : List ℕ) {h h′ : ℕ} → h ≡ h′ → chartCheck l w h ≡ Accepted → chartCheck l w h′ ≡ Accepted
 same-check l w p t = rw (← p) t
 
-module _ (s : List ℕ) (w : ZoneWeights) (rs : List Rule) (h : ℕ) (is : TableTextIs s w rs h) where
+module _ (s : List ℕ) (w : List ℕ) (rs : List Rule) (h : ℕ) (is : TableTextIs s w rs h) where
   abbrev t : TableCall
-  t = tableCall (ruleListOf rs) (weightList w) (reportHorizon h) blank blank
+  t = tableCall (ruleListOf rs) w (reportHorizon h) blank blank
 
   room : reportHorizon h ≤ length blank
   room = rw blank-length (horizon-small h)
@@ -139,48 +143,53 @@ module _ (s : List ℕ) (w : ZoneWeights) (rs : List Rule) (h : ℕ) (is : Table
       let c = accepted-summary t x e .table .chart in
       let k = horizon-kept h (c .some-horizon) in
       table-prints w rs h (figures t x e) is (k .1)
-      (same-check (ruleListOf rs) (weightList w) (k .0) (chart-accepted c))
+      (same-check (ruleListOf rs) w (k .0) (chart-accepted c))
       (lines-are t x e ∙ ap (λ n. figureLines n (figures t x e)) (k .0))
       (same-figures (active-rules rs (rules-few rs (c .rules))) (k .0) (figures-hold t x e))
   by-answer (SummaryAnswer.Refused x) e =
-      let c : chartCheck (ruleListOf rs) (weightList w) (reportHorizon h) ≡ Refused x =
+      let c : chartCheck (ruleListOf rs) w (reportHorizon h) ≡ Refused x =
       sym (room-check t room room) ∙ refused-check t x (refused-table t x e) in
-      table-refuses (x .number) (x .place) refl (bad-table w rs h x is c (chart-number (ruleListOf rs) (weightList w) (reportHorizon h) x c))
+      table-refuses (x .number) (x .place) refl (bad-table w rs h x is c (chart-number (ruleListOf rs) w (reportHorizon h) x c))
 
 -- For every text: one refusal line, with the number and the place of a reason that holds of the text; or the text is the lines of weights w,
 -- rules rs and a horizon h, and what is printed is the lines of figures that bound the exact ones of w, rs and h as demand 3 says.
 pub table-program : (s : List ℕ) → TableProgram s (printedBytes (tablePrinted s))
-unfolding tablePrinted printedBytes refusedTable readTable
-table-program s = go (tableText s) (table-reading s)
+unfolding tablePrinted printedBytes tableText tableGiven refusedTable readTable
+table-program s = go (readText tableGrammar s) (reading-is tableGrammar clear-table s)
   where
-    go : (t : TableText) → TableReading s t → TableProgram s (printedBytes (cond (eqb (t .refusal .number) 0)
-        (linesOf (summaryOf (reportCall t)) (reportHorizon (t .horizon))) (refusedBy (t .refusal))))
-    go t (too-long l) = table-refuses (tooLong .number) 0 refl (table-too-long l)
-    go t (stopped front rest place l e st p) = table-refuses (badLine place .number) place refl (table-bad-line front rest place l e st p)
-    go t (read w rs h i) = by-answer s w rs h i (summaryOf (tableCall (ruleListOf rs) (weightList w) (reportHorizon h) blank blank) .answer) refl
+    printed : TableText → List ℕ
+    printed t =
+        printedBytes (cond (eqb (t .refusal .number) 0) (linesOf (summaryOf (reportCall t)) (reportHorizon (t .horizon))) (refusedBy (t .refusal)))
+
+    go : (r : Reading (Contents tableGrammar)) → ReadingIs tableGrammar s r → TableProgram s (printed (tableGiven r))
+    go r (too-long l) = table-refuses (tooLong .number) 0 refl (table-too-long l)
+    go r (wrong {n} l st) = table-refuses (badLine n .number) n refl (table-bad-line n l st)
+    go r (right {c} l t) =
+        by-answer s (weightsIn c) (rulesIn c) (horizonIn c) (table-is c t l)
+        (summaryOf (tableCall (ruleListOf (rulesIn c)) (weightsIn c) (reportHorizon (horizonIn c)) blank blank) .answer) refl
 
 -- The other way round: a text that is the lines of weights, rules and a horizon which make a chart is not refused.
-pub table-printed : {s : List ℕ} {w : ZoneWeights} {rs : List Rule} {h : ℕ} → TableTextIs s w rs h
-    → chartCheck (ruleListOf rs) (weightList w) (reportHorizon h) ≡ Accepted
-    → (f : Figures) × (printedBytes (tablePrinted s) ≡ figureLines h f) × FiguresHold (weightList w) rs h f
+pub table-printed : {s : List ℕ} {w : List ℕ} {rs : List Rule} {h : ℕ} → TableTextIs s w rs h
+    → chartCheck (ruleListOf rs) w (reportHorizon h) ≡ Accepted
+    → (f : Figures) × (printedBytes (tablePrinted s) ≡ figureLines h f) × FiguresHold w rs h f
 unfolding refusedTable readTable
 table-printed {s} {w} {rs} {h} is ok = go (table-program s)
   where
     clash : {A : Type 0} {t : TableText} → tableText s ≡ t → (t .refusal .number ≡ 0 → ⊥) → A
     clash e n = absurd (n (ap (λ (t : TableText). t .refusal .number) (sym e ∙ table-read is)))
 
-    checked : {w′ : ZoneWeights} {rs′ : List Rule} {h′ : ℕ} {x : Refusal} → TableTextIs s w′ rs′ h′
-        → chartCheck (ruleListOf rs′) (weightList w′) (reportHorizon h′) ≡ Refused x → ⊥
+    checked : {w′ : List ℕ} {rs′ : List Rule} {h′ : ℕ} {x : Refusal} → TableTextIs s w′ rs′ h′
+        → chartCheck (ruleListOf rs′) w′ (reportHorizon h′) ≡ Refused x → ⊥
     checked {w′} {rs′} {h′} {x} is′ e =
         let o = table-text-once is is′ in
-        let q : chartCheck (ruleListOf rs) (weightList w) (reportHorizon h) ≡ Refused x = rw (o .0, o .1, o .2) e in
+        let q : chartCheck (ruleListOf rs) w (reportHorizon h) ≡ Refused x = rw (o .0, o .1, o .2) e in
         let z : _≡_ {A = ℕ} 0 1 = cc in
         omega arith
 
-    go : TableProgram s (printedBytes (tablePrinted s)) → (f : Figures) × (printedBytes (tablePrinted s) ≡ figureLines h f) × FiguresHold (weightList w) rs h f
+    go : TableProgram s (printedBytes (tablePrinted s)) → (f : Figures) × (printedBytes (tablePrinted s) ≡ figureLines h f) × FiguresHold w rs h f
     go (table-refuses n p e (table-too-long l)) = clash (text-too-long s l) (λ z. omega arith)
-    go (table-refuses n p e (table-bad-line front rest place l q st r)) = clash (table-stopped l q st) (λ z. omega arith)
+    go (table-refuses n p e (table-bad-line place l st)) = clash (table-stopped l st) (λ z. omega arith)
     go (table-refuses n p e (bad-table w′ rs′ h′ x is′ c o)) = absurd (checked is′ c)
     go (table-prints w′ rs′ h′ f is′ m c e t) =
         let o = table-text-once is′ is in
-        (f, e ∙ ap (λ n. figureLines n f) (o .2), same-figures-for (ap weightList (o .0)) (o .1) (o .2) t)
+        (f, e ∙ ap (λ n. figureLines n f) (o .2), same-figures-for (o .0) (o .1) (o .2) t)

@@ -22,10 +22,10 @@ unfoldable pub readTable : List ℕ → List Rule → ℕ → TableText
 readTable w rs h = record { refusal = notRefused; weights = w; list = ruleListOf rs; horizon = h }
 
 -- the contents; or 16 at the line where the text stops being one; or 17
-unfoldable pub tableOf : Reading (Contents tableGrammar) → TableText
-tableOf (read c) = readTable (numbersIn zoneCount (c .0)) (rulesSaid (c .1 .0)) (c .1 .1 .0 .0)
-tableOf (stopped n) = refusedTable (badLine n)
-tableOf long = refusedTable tooLong
+unfoldable pub tableGiven : Reading (Contents tableGrammar) → TableText
+tableGiven (read c) = readTable (numbersIn zoneCount (c .0)) (rulesSaid (c .1 .0)) (c .1 .1 .0 .0)
+tableGiven (stopped n) = refusedTable (badLine n)
+tableGiven long = refusedTable tooLong
 
 unfoldable pub tableText : List ℕ → TableText
-tableText s = tableOf (readText tableGrammar s)
+tableText s = tableGiven (readText tableGrammar s)

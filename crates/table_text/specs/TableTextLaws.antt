@@ -28,18 +28,18 @@ use Rattle.rule_lines.specs.RulesLaws.{said-length}
 use Rattle.rule_lines.specs.RuleTurnLaws.{read-list, read-next, read-line-number, read-refused}
 use Rattle.table_text.specs.declared.TableText.{TableText}
 use Rattle.table_text.specs.TableGrammar.{weightsWord, weightsLine, horizonWord, horizonLine, tableGrammar}
-use Rattle.table_text.specs.TableText.{refusedTable, readTable, tableOf, tableText}
+use Rattle.table_text.specs.TableText.{refusedTable, readTable, tableGiven, tableText}
 
 -- a line's keyword tells its place and its fields
 pub clear-table : Clear tableGrammar
 clear-table = (omega arith, refl)
 
-of-reading : (s : List ℕ) {r : Reading (Contents tableGrammar)} → readText tableGrammar s ≡ r → tableOf r ≡ tableText s
+of-reading : (s : List ℕ) {r : Reading (Contents tableGrammar)} → readText tableGrammar s ≡ r → tableGiven r ≡ tableText s
 unfolding tableText
-of-reading s e = sym (ap tableOf e)
+of-reading s e = sym (ap tableGiven e)
 
 pub too-long : (s : List ℕ) → maxText < length s → refusedTable tooLong ≡ tableText s
-unfolding tableOf readText
+unfolding tableGiven readText
 too-long s h = of-reading s (cut s h)
   where
     cut : (s : List ℕ) → maxText < length s → readText tableGrammar s ≡ long
@@ -50,7 +50,7 @@ given w l h = record { refusal = notRefused; weights = w; list = l; horizon = h 
 
 module _ (s : List ℕ) (short : length s ≤ maxText) {f : LineRead} (fe : f ≡ lineReadAt weightsWord (numbers zoneCount) s 0) where
   pub other-first : f .next ≡ Absent → refusedTable (badLine 1) ≡ tableText s
-  unfolding tableOf readText
+  unfolding tableGiven readText
   other-first q =
       let b : readText tableGrammar s ≡ stopped 1 =
       rw (le-leb (length s) maxText short)
@@ -80,7 +80,7 @@ module _ (s : List ℕ) (short : length s ≤ maxText) {f : LineRead} (fe : f �
 
     -- another line where the horizon should be
     not-last : seen (line horizonLine) s (r .next) ≡ other → refusedTable (badLine (r .line)) ≡ tableText s
-    unfolding tableOf
+    unfolding tableGiven
     not-last n =
         of-reading s
         (behind ∙ ap (λ (y : Reading (Contents (one horizonLine ∷ []))). also (w .row) (also rows y)) (read-other (line horizonLine) [] s (r .next) (r .line) n))
@@ -104,7 +104,7 @@ module _ (s : List ℕ) (short : length s ≤ maxText) {f : LineRead} (fe : f �
             (read-line (line horizonLine) [] s (r .next) (r .line) (x .is))
 
         pub goes-on : end < length s → refusedTable (badLine (r .line + 1)) ≡ tableText s
-        unfolding tableOf
+        unfolding tableGiven
         goes-on m =
             of-reading s
             (behind-last ∙ ap (λ (y : Reading (Unit {0})). also (w .row) (also rows (also (x .row) y))) (read-more s end (r .line + 1) m))
@@ -115,7 +115,7 @@ module _ (s : List ℕ) (short : length s ≤ maxText) {f : LineRead} (fe : f �
 
         pub whole : length s ≤ end
             → _≡_ {A = TableText} (record { refusal = notRefused; weights = f .values; list = r .list; horizon = getD (l .values) 0 0 }) (tableText s)
-        unfolding tableOf readTable given rows
+        unfolding tableGiven readTable given rows
         whole m =
             (λ i. given (weights-are i) (read-list s at 2 re i) (horizon-is i))
             ∙ of-reading s

@@ -19,7 +19,7 @@ weightsNumbers = tooLong .number ∷ badLine 0 .number ∷ badShift .number ∷ 
 
 weights-numbers : {s : List ℕ} {n p : ℕ} → WeightsRefusal s n p → OneOf weightsNumbers n
 weights-numbers (weights-too-long l) = here refl
-weights-numbers (weights-bad-line front rest place l e st q) = there (here refl)
+weights-numbers (weights-bad-line place l st) = there (here refl)
 weights-numbers (bad-shift x is o) = there (there (here refl))
 
 -- A refusal that the weights program prints has one of its numbers.

@@ -1,8 +1,8 @@
 -- CLAIMS: the weights program, for every text, of the bytes that its output function's contract names; and that a table text takes its line.
 use Prim.Native.Nat.{ℕ, _+_, _≤_}
-use mathlib.Core.Path.{_≡_, refl, ap}
+use mathlib.Core.Path.{_≡_, refl, sym, ap, _∙_}
 use mathlib.Core.Bool.{Bool, true, false, cond}
-use mathlib.Core.List.{List, _++_}
+use mathlib.Core.List.{List, [], _∷_, _++_, append-assoc}
 use native.Mathlib.Omega.{arith}
 use lib.Dec.{leb}
 use lib.IntN.{ℤ, natAbs}
@@ -10,30 +10,35 @@ use lib.ListN.{length, getD}
 use borrow.Author.Tests.{leb-true, leb-false}
 use Rattle.rules.specs.declared.Rule.{Rule}
 use Rattle.rules.specs.declared.weights.ZoneWeights.{ZoneWeights}
+use Rattle.rules.specs.Bounds.{zoneCount}
 use Rattle.rules.specs.Refusal.{badLine, tooLong, badShift}
+use Rattle.rules.specs.Weights.{weightList}
 use Rattle.shift.specs.declared.ShiftAnswer.the-variants.{Accepted, Refused}
 use Rattle.shift.specs.Shift.{maxShift, weightsOf, shiftOf}
 use Rattle.shift.specs.Shifted.{Shifted, Whole}
 use Rattle.shift.specs.ShiftLaws.{shift-accepted, weights-shifted}
-use Rattle.text.specs.declared.lines.Line.the-variants.{Weights}
-use Rattle.text.specs.Format.{bytesOf, InRange}
-use Rattle.decimal.specs.Fields.{none, one}
-use Rattle.text.specs.Line.{lineAt}
-use Rattle.text.specs.LineReadLaws.{line-read}
-use Rattle.text.specs.Size.{maxText}
-use Rattle.parse.specs.declared.shifts.ShiftText.{ShiftText}
-use Rattle.parse.specs.ShiftText.{shiftText}
+use Rattle.decimal.specs.Fields.{fields, AllUnsigned, none, one}
+use Rattle.decimal.specs.Word.{newline}
+use Rattle.grammar.specs.Numbers.{numbersRow}
+use Rattle.grammar.specs.NumbersLaws.{in-row, row-fields, row-fits}
+use Rattle.grammar.specs.Form.{Says, lineBytes, line, saying}
+use Rattle.grammar.specs.Grammar.{one as oneLine, many, Contents, linesOf, bytesOfAll, AllFit, TextIs}
+use Rattle.grammar.specs.Size.{maxText}
+use Rattle.grammar.specs.Reading.{Reading, readText, found, seen}
+use Rattle.grammar.specs.Read.{ReadingIs, too-long as reading-too-long, wrong, right}
+use Rattle.grammar.specs.FormLaws.{stands-of, stands-seen}
+use Rattle.grammar.specs.GrammarLaws.{reading-is}
+use Rattle.rule_lines.specs.Rules.{ruleLine, ruleRows}
+use Rattle.table_text.specs.TableGrammar.{weightsWord, weightsLine, horizonLine}
 use Rattle.write.specs.Refused.{refusedLine}
-use Rattle.weights_report.specs.WeightLine.{weightLine}
 use Rattle.write.specs.Printed.{printedBytes}
-use Rattle.weights_report.specs.WeightsReport.{shiftBy, textWeights, weightsBy, weightsPrinted}
-use Rattle.text_claims.specs.Texts.{weightsLine, horizonLine, ruleLines, RulesInRange}
+use Rattle.weights_report.specs.ShiftText.{shiftGrammar, shiftBy, shiftText}
+use Rattle.weights_report.specs.ShiftTextLaws.{clear-shift}
+use Rattle.weights_report.specs.WeightLine.{weightLine}
+use Rattle.weights_report.specs.WeightsReport.{weightsFor, textWeights, weightsBy, weightsPrinted}
 use Rattle.table_claims.specs.TableTexts.{TableTextIs}
-use Rattle.text_claims.specs.LinesLaws.{spans-of}
-use Rattle.weights_claims.specs.WeightsTexts.{ShiftTextIs, ShiftReading, WeightsProgram, bad-shift}
-use Rattle.weights_claims.specs.WeightsTexts.{too-long as reading-too-long, stopped, read}
-use Rattle.weights_claims.specs.WeightsTexts.{refuses, prints, too-long, bad-line}
-use Rattle.weights_claims.specs.WeightsBytes.{shift-reading, shift-read}
+use Rattle.weights_claims.specs.WeightsTexts.{ShiftTextIs, WeightsProgram, bad-shift, refuses, prints, too-long, bad-line}
+use Rattle.weights_claims.specs.WeightsBytes.{shift-read}
 
 -- a shift in bounds has the weights of a shifted core
 in-bounds-shifted : (x : ℤ) → natAbs x ≤ maxShift → Shifted x (weightsOf x)
@@ -42,8 +47,8 @@ in-bounds-shifted x h = weights-shifted x (weightsOf x) (shift-accepted x h)
 -- For every text: one refusal line, with the number and the place of a reason that holds of the text; or the text is the line of a shift
 -- in bounds, and what is printed is the line of its weights.
 pub weights-program : (s : List ℕ) → WeightsProgram s (printedBytes (weightsPrinted s))
-unfolding weightsPrinted textWeights printedBytes shiftOf weightLine
-weights-program s = go (shiftText s) (shift-reading s)
+unfolding weightsPrinted textWeights printedBytes shiftOf shiftText shiftBy
+weights-program s = go (readText shiftGrammar s) (reading-is shiftGrammar clear-shift s)
   where
     by-shift : (x : ℤ) → ShiftTextIs s x → WeightsProgram s (printedBytes (weightsBy (shiftOf x)))
     by-shift x is = by-size (leb (natAbs x) maxShift) refl
@@ -53,26 +58,26 @@ weights-program s = go (shiftText s) (shift-reading s)
         by-size true e = let h = leb-true (natAbs x) maxShift e in prints x is h refl (in-bounds-shifted x h)
         by-size false e = refuses (badShift .number) 0 refl (bad-shift x is (leb-false (natAbs x) maxShift e))
 
-    go : (t : ShiftText) → ShiftReading s t → WeightsProgram s (printedBytes (weightsBy (shiftBy t)))
-    go t (reading-too-long l) = refuses (tooLong .number) 0 refl (too-long l)
-    go t (stopped front rest place l e st p) = refuses (badLine place .number) place refl (bad-line front rest place l e st p)
-    go t (read x is) = by-shift x is
+    go : (r : Reading (Contents shiftGrammar)) → ReadingIs shiftGrammar s r → WeightsProgram s (printedBytes (weightsBy (weightsFor (shiftBy r))))
+    go r (reading-too-long l) = refuses (tooLong .number) 0 refl (too-long l)
+    go r (wrong {n} l st) = refuses (badLine n .number) n refl (bad-line n l st)
+    go r (right {c} l t) = by-shift (c .0 .0) (record { text = t })
 
 -- The other way round: a text that is the line of a shift in bounds is not refused.
 pub weights-printed : {s : List ℕ} {x : ℤ} → ShiftTextIs s x → natAbs x ≤ maxShift
-    → printedBytes (weightsPrinted s) ≡ bytesOf (weightsLine (weightsOf x))
-unfolding weightsPrinted textWeights printedBytes weightLine
+    → printedBytes (weightsPrinted s) ≡ weightLine (weightsOf x)
+unfolding weightsPrinted textWeights printedBytes
 weights-printed {s} {x} is h = rw (shift-read is, shift-accepted x h)
 
 -- a weights line is no refusal
-pub weights-not-refused : (w : ZoneWeights) (n p : ℕ) → bytesOf (weightsLine w) ≡ refusedLine n p → ⊥
-unfolding refusedLine
+pub weights-not-refused : (w : ZoneWeights) (n p : ℕ) → weightLine w ≡ refusedLine n p → ⊥
+unfolding refusedLine weightLine
 weights-not-refused w n p e = let z : _≡_ {A = ℕ} 119 114 = ap (λ l. getD l 0 0) e in omega arith
 
 -- ---- the line is read back
 
 -- every weight is within 32 bits
-weights-range : (w : ZoneWeights) → Whole w → InRange (weightsLine w)
+weights-range : (w : ZoneWeights) → Whole w → AllUnsigned (weightList w)
 weights-range w t =
     one {n = w .s} (omega (arith, t .s-missing))
     (one {n = w .a1} (omega (arith, t .s-missing))
@@ -84,26 +89,44 @@ weights-range w t =
     (one {n = w .c0} (omega (arith, t .c0-none))
     none)))))))
 
+-- what a weights line of these says
+abbrev pub weightsRow : ZoneWeights → Says weightsLine
+weightsRow w = numbersRow zoneCount (weightList w)
+
+-- the printed line is the weights line of a table text
+pub line-bytes : (w : ZoneWeights) → weightLine w ≡ lineBytes weightsLine (weightsRow w)
+unfolding weightLine
+line-bytes w =
+    append-assoc weightsWord (fields (weightList w)) newline
+    ∙ ap (λ (l : List ℕ). weightsWord ++ (fields l ++ newline)) (sym (in-row zoneCount (weightList w) refl))
+    ∙ ap (λ (l : List ℕ). weightsWord ++ l) (sym (row-fields zoneCount (weightsRow w)))
+
 -- What is printed for a shift in bounds is read as its weights, whatever stands behind it.
 pub weights-read-back : {s : List ℕ} {x : ℤ} → ShiftTextIs s x → natAbs x ≤ maxShift → (rest : List ℕ)
-    → lineAt (printedBytes (weightsPrinted s) ++ rest) 0 ≡ Weights (weightsOf x) (length (printedBytes (weightsPrinted s)))
+    → seen (line weightsLine) (printedBytes (weightsPrinted s) ++ rest) 0 ≡ found (weightsRow (weightsOf x)) (length (printedBytes (weightsPrinted s)))
+unfolding seen
 weights-read-back {s} {x} is h rest =
-    let W = bytesOf (weightsLine (weightsOf x)) in
+    let W = lineBytes weightsLine (weightsRow (weightsOf x)) in
     let e : 0 + length W ≡ length W = omega arith in
-    rw (weights-printed is h)
-    (line-read (Weights (weightsOf x) (length W))
-    (record { spans = rw e at (spans-of (W ++ rest) 0 W rest refl); range = weights-range (weightsOf x) (in-bounds-shifted x h .whole) }))
+    rw (weights-printed is h, line-bytes (weightsOf x))
+    (stands-seen weightsLine (weightsRow (weightsOf x))
+    (rw e at (stands-of {s = W ++ rest} {at = 0} (weightsLine, weightsRow (weightsOf x)) rest (row-fits (weights-range (weightsOf x) (in-bounds-shifted x h .whole))) refl)))
 
--- So with rules and a horizon behind it, as it stands, it is a table text of those weights.
-pub weights-then-rules : {s : List ℕ} {x : ℤ} → ShiftTextIs s x → natAbs x ≤ maxShift → (rs : List Rule) (h : ℕ)
-    → RulesInRange rs → InRange (horizonLine h)
-    → length (printedBytes (weightsPrinted s) ++ ruleLines rs ++ bytesOf (horizonLine h)) ≤ maxText
-    → TableTextIs (printedBytes (weightsPrinted s) ++ ruleLines rs ++ bytesOf (horizonLine h)) (weightsOf x) rs h
-weights-then-rules {s} {x} is b rs h rr hr short =
+-- So with the lines of rules and a horizon behind it, as it stands, it is a table text of those weights.
+pub weights-then-rules : {s : List ℕ} {x : ℤ} → ShiftTextIs s x → natAbs x ≤ maxShift → (rs : List Rule) (h : ℕ) {rest : List ℕ}
+    → TextIs (many ruleLine ∷ oneLine horizonLine ∷ []) (ruleRows rs, ((h, tt), tt)) rest
+    → length (printedBytes (weightsPrinted s) ++ rest) ≤ maxText
+    → TableTextIs (printedBytes (weightsPrinted s) ++ rest) (weightList (weightsOf x)) rs h
+unfolding linesOf bytesOfAll saying AllFit
+weights-then-rules {s} {x} is b rs h {rest} t short =
     record {
-      bytes = rw (weights-printed is b);
+      text =
+          record {
+            bytes =
+                ap (λ (l : List ℕ). l ++ rest) (weights-printed is b ∙ line-bytes (weightsOf x))
+                ∙ ap (λ (l : List ℕ). lineBytes weightsLine (weightsRow (weightsOf x)) ++ l) (t .bytes);
+            fit = (row-fits (weights-range (weightsOf x) (in-bounds-shifted x b .whole)), t .fit);
+          };
       short = short;
-      weights-range = weights-range (weightsOf x) (in-bounds-shifted x b .whole);
-      rules-range = rr;
-      horizon-range = hr;
+      zones = refl;
     }
