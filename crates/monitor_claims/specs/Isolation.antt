@@ -14,8 +14,8 @@ use Rattle.window.specs.ReferenceChart.{Answer, refused, quiet, signal, rowMask
 use Rattle.monitor.specs.Calls.{Said, EachAnswer}
 use Rattle.decimal.specs.Fields.{field, fields}
 use Rattle.decimal.specs.Word.{newline}
-use Rattle.text.specs.Newlines.{newlines}
-use Rattle.parse.specs.Readings.{NodeReading, nodeCount, OnBench, readingsOf}
+use Rattle.grammar.specs.Newlines.{newlines}
+use Rattle.monitor_text.specs.Readings.{NodeReading, nodeCount, OnBench, readingsOf}
 use Rattle.monitor_report.specs.MonitorLines.{quietWord, signalWord, totalWord}
 use Rattle.write.specs.Refused.{refusedLine}
 use Rattle.write.specs.Printed.{printedBytes}

@@ -1,241 +1,197 @@
 -- CLAIMS: the monitor program's text. It is accepted exactly where it is the lines of a chart, rules and points of the bench's nodes, and it then
--- gives these.
+-- gives these; where it stops being one it is refused by 16, there, and at the first point of no node by 19.
 use Prim.Native.Nat.{ℕ, _+_, _≤_, _<_}
 use mathlib.Core.Path.{_≡_, refl, sym, ap, _∙_}
 use mathlib.Core.Bool.{Bool, true, false, cond}
 use mathlib.Core.List.{List, [], _∷_, _++_}
 use native.Mathlib.Omega.{arith}
-use native.Mathlib.Nat.{le-refl}
-use lib.Dec.{leb, ltb}
+use lib.Dec.{ltb}
 use lib.IntN.{ℤ}
-use lib.ListN.{length, drop, length-append, length-drop}
-use borrow.Author.Tests.{leb-true, leb-false, le-leb, lt-leb, ltb-true, ltb-false, lt-ltb, le-ltb}
+use lib.ListN.{length, length-append}
+use borrow.Author.Tests.{ltb-true, ltb-false, lt-ltb}
 use Rattle.rules.specs.declared.Rule.{Rule}
-use Rattle.text.specs.declared.lines.Line.the-variants.{Chart}
-use Rattle.text.specs.Format.{bytesOf, InRange}
-use Rattle.decimal.specs.Spans.{Spans}
-use Rattle.decimal.specs.SpansLaws.{spans-then, spans-front, spans-back}
-use Rattle.text.specs.Line.{lineAt}
-use Rattle.text.specs.LineLaws.{line-stands, line-beyond}
-use Rattle.text.specs.LineReadLaws.{line-read, kind-read}
-use Rattle.text.specs.Newlines.{newlines}
-use Rattle.text.specs.NewlineLaws.{newlines-append, newlines-line}
-use Rattle.text.specs.Kind.{rule, chart, point, kindOf, NotOf}
-use Rattle.text.specs.KindLaws.{other-kind, chart-or-none, chart-passed}
-use Rattle.text.specs.OnLine.{onChart}
-use Rattle.parse.specs.declared.monitors.MonitorText.{MonitorText}
 use Rattle.rules.specs.Bounds.{maxRules}
 use Rattle.rules.specs.Check.{activeRules}
 use Rattle.rules.specs.Refusal.{badLine, tooLong, badNode}
-use Rattle.text.specs.Size.{maxText}
-use Rattle.rule_lines.specs.Rules.{rulesAt, afterRules, ruleListOf}
-use Rattle.rule_lines.specs.RulesLaws.{rules-end, active-rules}
-use Rattle.parse.specs.Readings.{NodeReading, pointsAt, afterPoints, OnBench, benchPoints}
-use Rattle.parse.specs.ReadingsLaws.{points-end, all-bench, bench-all, first-off, off-place}
-use Rattle.parse.specs.MonitorText.{refusedMonitor, readMonitor, monitorBy, monitorEnd, monitorText, monitorPoints}
-use Rattle.text_claims.specs.Texts.{chartLine, ruleLines, RulesInRange, pointLine, pointLines, PointsInRange}
-use Rattle.monitor_claims.specs.MonitorTexts.{MonitorTextIs, OffBench}
-use Rattle.text_claims.specs.Texts.{Begins}
-use Rattle.monitor_claims.specs.MonitorTexts.{MonitorStops, no-chart, no-point, MonitorReading, too-long, stopped, off-bench, read}
-use Rattle.text_claims.specs.LinesLaws.{drop-behind, spans-of, nothing-behind, spans-whole, whole-spans}
-use Rattle.text_claims.specs.LinesLaws.{begins-read, begins-not, rules-spans, rules-read, newlines-rules}
-use Rattle.text_claims.specs.LinesLaws.{points-spans, points-read, newlines-points}
+use Rattle.grammar.specs.Size.{maxText}
+use Rattle.grammar.specs.Newlines.{newlines}
+use Rattle.grammar.specs.Form.{Saying, Says, line}
+use Rattle.grammar.specs.Grammar.{Contents, manyLines, linesOf, bytesOfAll, AllFit, TextIs, Stops}
+use Rattle.grammar.specs.Clear.{kindsOf}
+use Rattle.grammar.specs.ToldLaws.{lines-in}
+use Rattle.grammar.specs.LinesLaws.{newlines-all, fit-append, fit-split}
+use Rattle.grammar.specs.Reading.{Reading, readText}
+use Rattle.grammar.specs.Reading.{read as contents}
+use Rattle.grammar.specs.Read.{ReadingIs, right, wrong}
+use Rattle.grammar.specs.Read.{too-long as beyond}
+use Rattle.grammar.specs.GrammarLaws.{contents-once, reading-is, is-reading}
+use Rattle.rule_lines.specs.Rules.{ruleLine, ruleRows, rulesSaid, ruleListOf}
+use Rattle.rule_lines.specs.RulesLaws.{active-rules, said-length}
+use Rattle.rule_lines.specs.RulesLaws.{said-rows as rules-back, rows-said as rules-again}
+use Rattle.monitor_text.specs.declared.monitors.MonitorText.{MonitorText}
+use Rattle.monitor_text.specs.Readings.{NodeReading, OnBench, benchPoints}
+use Rattle.monitor_text.specs.ReadingsLaws.{all-bench, first-off, off-place}
+use Rattle.monitor_text.specs.MonitorGrammar.{pointLine, monitorGrammar, pointRows, pointsSaid, monitorContents}
+use Rattle.monitor_text.specs.PointTurnLaws.{said-rows, rows-said}
+use Rattle.monitor_text.specs.MonitorText.{refusedMonitor, readMonitor, pointsFrom, benchOr, monitorOf, monitorText, monitorPoints, pointsAt}
+use Rattle.monitor_text.specs.MonitorTextLaws.{clear-monitor}
+use Rattle.monitor_text.specs.AcceptedLaws.{bench-read, points-again}
+use Rattle.monitor_claims.specs.MonitorTexts.{MonitorTextIs, OffBench, MonitorReading, too-long, stopped, off-bench, read}
 
--- the lines of a chart, rules and points
-front-lines : (c : ℤ) (d : ℕ) (rs : List Rule) (ps : List NodeReading)
-    → newlines (bytesOf (chartLine c d) ++ ruleLines rs ++ pointLines ps) ≡ 1 + length rs + length ps
-front-lines c d rs ps =
-    omega (
-      arith,
-      newlines-append (bytesOf (chartLine c d) ++ ruleLines rs) (pointLines ps),
-      newlines-append (bytesOf (chartLine c d)) (ruleLines rs),
-      newlines-line (chartLine c d) tt,
-      newlines-rules rs,
-      newlines-points ps,
-    )
+-- ---- what contents say: a chart, rules and points
+
+abbrev rulesIn : Contents monitorGrammar → List Rule
+rulesIn c = rulesSaid (c .1 .0)
+
+abbrev pointsIn : Contents monitorGrammar → List NodeReading
+pointsIn c = pointsSaid (c .1 .1 .0)
+
+contents-said : (c : Contents monitorGrammar) → monitorContents (c .0 .0) (c .0 .1 .0) (rulesIn c) (pointsIn c) ≡ c
+contents-said c =
+    let rs = rules-again (c .1 .0) in
+    let ps = rows-said (c .1 .1 .0) in
+    λ i. (c .0, (rs i, (ps i, tt)))
+
+-- A text whose contents these are is the text of what they say.
+monitor-is : {s : List ℕ} (c : Contents monitorGrammar) → TextIs monitorGrammar c s → length s ≤ maxText
+    → MonitorTextIs s (c .0 .0) (c .0 .1 .0) (rulesIn c) (pointsIn c)
+monitor-is c t l = record { text = rw (contents-said c) t; short = l }
+
+-- and is read so
+read-contents : {s : List ℕ} {c : ℤ} {d : ℕ} {rs : List Rule} {ps : List NodeReading} → MonitorTextIs s c d rs ps
+    → readText monitorGrammar s ≡ contents (monitorContents c d rs ps)
+read-contents {s} t = is-reading monitorGrammar clear-monitor s (right (t .short) (t .text))
+
+-- ---- the lines of a chart, rules and points
+
+rules-length : (rs : List Rule) → length (manyLines (line ruleLine) (ruleRows rs)) ≡ length rs
+unfolding manyLines ruleRows
+rules-length [] = refl
+rules-length (r ∷ rs) = omega (arith, rules-length rs)
+
+points-length : (ps : List NodeReading) → length (manyLines (line pointLine) (pointRows ps)) ≡ length ps
+unfolding manyLines pointRows
+points-length [] = refl
+points-length (p ∷ ps) = omega (arith, points-length ps)
+
+rows-length : (rs : List Rule) → length (ruleRows rs) ≡ length rs
+unfolding ruleRows
+rows-length [] = refl
+rows-length (r ∷ rs) = omega (arith, rows-length rs)
+
+lines-length : (c : ℤ) (d : ℕ) (rs : List Rule) (ps : List NodeReading)
+    → length (linesOf monitorGrammar (monitorContents c d rs ps)) ≡ 1 + length rs + length ps
+unfolding linesOf
+lines-length c d rs ps =
+    let rules = manyLines (line ruleLine) (ruleRows rs) in
+    let points = manyLines (line pointLine) (pointRows ps) in
+    omega (arith, length-append rules (points ++ []), length-append points [], rules-length rs, points-length ps)
+
+-- the lines before a point are within 32 bits, as all are
+points-front : (before more : List NodeReading) → AllFit (manyLines (line pointLine) (pointRows (before ++ more)) ++ [])
+    → AllFit (manyLines (line pointLine) (pointRows before) ++ [])
+unfolding manyLines pointRows AllFit
+points-front [] more i = tt
+points-front (p ∷ before) more i = (i .0, points-front before more (i .1))
+
+front-fits : (c : ℤ) (d : ℕ) (rs : List Rule) (before more : List NodeReading) → AllFit (linesOf monitorGrammar (monitorContents c d rs (before ++ more)))
+    → AllFit (linesOf monitorGrammar (monitorContents c d rs before))
+unfolding linesOf AllFit
+front-fits c d rs before more i =
+    let rules = manyLines (line ruleLine) (ruleRows rs) in
+    let points : List NodeReading → List Saying = λ ps. manyLines (line pointLine) (pointRows ps) ++ [] in
+    let parts = fit-split rules (points (before ++ more)) (i .1) in
+    (i .0, fit-append rules (points before) (parts .0) (points-front before more (parts .1)))
+
+-- The first point of no node is the line behind the LFs before it.
+pub off-newlines : {s : List ℕ} {c : ℤ} {d : ℕ} {rs : List Rule} {place : ℕ} (o : OffBench s c d rs place)
+    → place ≡ 1 + newlines (bytesOfAll (linesOf monitorGrammar (monitorContents c d rs (o .before))))
+off-newlines {s} {c} {d} {rs} o =
+    let front = monitorContents c d rs (o .before) in
+    let fits = front-fits c d rs (o .before) (o .point ∷ o .after) (o .text .text .fit) in
+    omega (arith, o .line, newlines-all (kindsOf monitorGrammar) (clear-monitor .1) (linesOf monitorGrammar front) (lines-in monitorGrammar front) fits)
 
 -- ---- every text is one of the four kinds
 
-module _ (s : List ℕ) (short : length s ≤ maxText) where
-  -- the points, and the end of the text or more
-  module _ (c : ℤ) (d : ℕ) (rs : List Rule) (at : ℕ) (cr : InRange (chartLine c d)) (rr : RulesInRange rs)
-      (u : Spans s 0 (bytesOf (chartLine c d) ++ ruleLines rs) at) (n : NotOf rule (lineAt s at)) where
-    module _ (ps : List NodeReading) (end : ℕ) (pr : PointsInRange ps) (v : Spans s at (pointLines ps) end) where
-      whole : Spans s 0 (bytesOf (chartLine c d) ++ ruleLines rs ++ pointLines ps) end
-      whole = spans-then u v
+module _ (s : List ℕ) (short : length s ≤ maxText) (c : Contents monitorGrammar) (t : TextIs monitorGrammar c s) where
+  off : benchPoints (pointsIn c) < length (pointsIn c) → OffBench s (c .0 .0) (c .0 .1 .0) (rulesIn c) (2 + length (c .1 .0) + benchPoints (pointsIn c))
+  off l =
+      let f = first-off (pointsIn c) l in
+      let is = rw (f .split) at (monitor-is c t short) in
+      record {
+        before = f .before;
+        point = f .point;
+        after = f .after;
+        text = is;
+        good = f .good;
+        bad = f .bad;
+        line = omega (arith, f .place, lines-length (c .0 .0) (c .0 .1 .0) (rulesIn c) (f .before), said-length (c .1 .0));
+      }
 
-      text-is : length s ≤ end → MonitorTextIs s c d rs ps
-      text-is l = record { bytes = whole-spans whole l; short = short; chart-range = cr; rules-range = rr; points-range = pr }
+  benched : (b : Bool) → ltb (benchPoints (pointsIn c)) (length (pointsIn c)) ≡ b
+      → MonitorReading s (cond b (refusedMonitor (badNode (2 + length (c .1 .0) + benchPoints (pointsIn c))))
+      (readMonitor (c .0 .0) (c .0 .1 .0) (rulesIn c) (pointsFrom (c .0) (c .1 .0))))
+  benched true e = off-bench (c .0 .0) (c .0 .1 .0) (rulesIn c) _ (off (ltb-true _ _ e))
+  benched false e =
+      put (rules-again (c .1 .0))
+      (read (c .0 .0) (c .0 .1 .0) (rulesIn c) (pointsIn c) (monitor-is c t short) (all-bench (pointsIn c) (ltb-false _ _ e)))
+    where
+      put : {xs ys : List (Says ruleLine)} → xs ≡ ys
+          → MonitorReading s (readMonitor (c .0 .0) (c .0 .1 .0) (rulesIn c) (pointsFrom (c .0) xs))
+          → MonitorReading s (readMonitor (c .0 .0) (c .0 .1 .0) (rulesIn c) (pointsFrom (c .0) ys))
+      put q r = rw (← q) r
 
-      -- the points, every one of a node of the bench, or one that is not
-      at-end : length s ≤ end → (b : Bool) → ltb (benchPoints ps) (length ps) ≡ b
-          → MonitorReading s (cond b (refusedMonitor (badNode (2 + length rs + benchPoints ps))) (readMonitor c d rs at ps))
-      at-end l true e =
-          let f = first-off ps (ltb-true _ _ e) in
-          let is : MonitorTextIs s c d rs (f .before ++ (f .point ∷ f .after)) = rw (f .split) at (text-is l) in
-          off-bench c d rs (2 + length rs + benchPoints ps)
-          (record {
-            before = f .before;
-            point = f .point;
-            after = f .after;
-            text = is;
-            good = f .good;
-            bad = f .bad;
-            line = omega (arith, f .place, front-lines c d rs (f .before));
-          })
-      at-end l false e = read c d rs at ps (text-is l) (all-bench ps (ltb-false _ _ e)) (omega (arith, u .end))
-
-      behind-rules : NotOf point (lineAt s end) → MonitorReading s (monitorBy s c d rs at ps end)
-      unfolding monitorBy pointLines
-      behind-rules m = go (leb (length s) end) refl
-        where
-          no-rule : ps ≡ [] → Begins rule (drop end s) → ⊥
-          no-rule q b =
-              let e : end ≡ at = v .end ∙ rw q (omega arith) in
-              n .never (rw e at (begins-read s end b))
-
-          go : (b : Bool) → leb (length s) end ≡ b
-              → MonitorReading s (cond b (cond (ltb (benchPoints ps) (length ps)) (refusedMonitor (badNode (2 + length rs + benchPoints ps))) (readMonitor c d rs at ps))
-              (refusedMonitor (badLine (2 + length rs + length ps))))
-          go true e = at-end (leb-true _ _ e) (ltb (benchPoints ps) (length ps)) refl
-          go false e =
-              stopped (bytesOf (chartLine c d) ++ ruleLines rs ++ pointLines ps) (drop end s) (2 + length rs + length ps) short (whole .text)
-              (no-point {rest = drop end s} c d rs ps cr rr pr
-              (λ q. omega (arith, ap length q, length-drop end s, leb-false (length s) end e))
-              no-rule
-              (λ b. m .never (begins-read s end b)))
-              (omega (arith, front-lines c d rs ps))
-
-  first-line : MonitorReading s (onChart (lineAt s 0)
-      (λ c d at. monitorEnd s c d (rulesAt (length s) s at) (afterRules (length s) s at)) (refusedMonitor (badLine 1)))
-  unfolding monitorEnd newlines
-  first-line =
-      chart-or-none (lineAt s 0)
-      (λ c d at e.
-      let i = line-stands s 0 (Chart c d at) e tt in
-      let r = rules-spans (length s) s at in
-      let from = afterRules (length s) s at in
-      let p = points-spans (length s) s from in
-      rw e
-      (behind-rules c d (rulesAt (length s) s at) from (i .range) (r .1) (spans-then (i .spans) (r .0))
-      (rules-end (length s) s at (omega arith))
-      (pointsAt (length s) s from) (afterPoints (length s) s from) (p .1) (p .0)
-      (points-end (length s) s from (omega arith))))
-      (λ n.
-      rw (chart-passed (lineAt s 0) _ _ n)
-      (stopped [] s 1 short refl (no-chart (λ b. n .never (begins-read s 0 b))) refl))
-
--- Every text is refused by 17; or by 16, at the place that counts the LFs before the first line that cannot come next; or by 19, at the first
--- point whose node is none of the bench's; or it is read.
+-- Every text is refused by 17; or by 16, at the line where it stops being one; or by 19, at the first point whose node is none of the bench's; or it
+-- is read.
 pub monitor-reading : (s : List ℕ) → MonitorReading s (monitorText s)
-unfolding monitorText
-monitor-reading s = go (leb (length s) maxText) refl
+unfolding monitorText monitorOf benchOr
+monitor-reading s = go (readText monitorGrammar s) (reading-is monitorGrammar clear-monitor s)
   where
-    go : (b : Bool) → leb (length s) maxText ≡ b
-        → MonitorReading s (cond b (onChart (lineAt s 0)
-        (λ c d at. monitorEnd s c d (rulesAt (length s) s at) (afterRules (length s) s at))
-        (refusedMonitor (badLine 1)))
-        (refusedMonitor tooLong))
-    go true e = first-line s (leb-true _ _ e)
-    go false e = too-long (leb-false _ _ e)
+    go : (r : Reading (Contents monitorGrammar)) → ReadingIs monitorGrammar s r → MonitorReading s (monitorOf r)
+    go r (beyond l) = too-long l
+    go r (wrong {n} l st) = stopped n l st
+    go r (right {c} l t) = benched s l c t (ltb (benchPoints (pointsIn c)) (length (pointsIn c))) refl
 
 -- ---- the lines of a chart, rules and points are read back
 
-record Found (s : List ℕ) (c : ℤ) (d : ℕ) (rs : List Rule) (ps : List NodeReading) : Type 0 where
-  next : ℕ
-  at : ℕ
-  first : lineAt s 0 ≡ Chart c d next
-  rules : rulesAt (length s) s next ≡ rs
-  after : afterRules (length s) s next ≡ at
-  points : pointsAt (length s) s at ≡ ps
-  end : afterPoints (length s) s at ≡ length s
-
--- a point line is no rule line
-point-no-rule : {s : List ℕ} {at end : ℕ} (p : NodeReading) → InRange (pointLine p) → Spans s at (bytesOf (pointLine p)) end
-    → NotOf rule (lineAt s at)
-point-no-rule p r u = other-kind (kind-read (pointLine p) r u) (λ q. omega arith)
-
--- behind the rules there is a point line or the end of the text
-points-no-rule : (s : List ℕ) (at : ℕ) (ps : List NodeReading) → PointsInRange ps → Spans s at (pointLines ps) (length s)
-    → NotOf rule (lineAt s at)
-unfolding pointLines PointsInRange
-points-no-rule s at [] i u = other-kind (ap kindOf (line-beyond s at (omega (arith, u .end)))) (λ q. omega arith)
-points-no-rule s at (p ∷ ps) i u = point-no-rule p (i .0) (spans-front (bytesOf (pointLine p)) (pointLines ps) u)
-
-found : {s : List ℕ} {c : ℤ} {d : ℕ} {rs : List Rule} {ps : List NodeReading} → MonitorTextIs s c d rs ps → Found s c d rs ps
-found {s} {c} {d} {rs} {ps} t =
-    let C = bytesOf (chartLine c d) in
-    let R = ruleLines rs in
-    let whole = spans-whole (t .bytes) in
-    let front = spans-front (C ++ R) (pointLines ps) whole in
-    let back = spans-back (C ++ R) (pointLines ps) whole in
-    let r = rules-read (length s) rs (omega arith) (t .rules-range) (spans-back C R front)
-    (points-no-rule s _ ps (t .points-range) back) in
-    let beyond = line-beyond s (length s) (le-refl (length s)) in
-    let p = points-read (length s) ps (omega arith) (t .points-range) back
-    (other-kind (ap kindOf beyond) (λ q. omega arith)) in
-    record {
-      next = _;
-      at = _;
-      first = line-read (Chart c d _) (record { spans = spans-front C R front; range = t .chart-range });
-      rules = r .0;
-      after = r .1;
-      points = p .0;
-      end = p .1;
-    }
-
 pub monitor-read : {s : List ℕ} {c : ℤ} {d : ℕ} {rs : List Rule} {ps : List NodeReading} → MonitorTextIs s c d rs ps → OnBench ps
-    → (at : ℕ) × (monitorText s ≡ readMonitor c d rs at ps) × (monitorPoints s ≡ ps)
-unfolding monitorText monitorEnd monitorBy readMonitor
+    → (at : ℕ) × (monitorText s ≡ readMonitor c d rs at) × (monitorPoints s ≡ ps)
+unfolding readMonitor
 monitor-read {s} {c} {d} {rs} {ps} t o =
-    let f = found t in
-    let all : length ps ≤ benchPoints ps = omega (arith, bench-all ps o) in
-    let e : monitorText s ≡ readMonitor c d rs (f .at) ps =
-    rw (
-      le-leb (length s) maxText (t .short),
-      f .first,
-      f .rules,
-      f .after,
-      f .points,
-      f .end,
-      le-leb (length s) (length s) (le-refl (length s)),
-      le-ltb (benchPoints ps) (length ps) all,
-    ) in
-    (f .at, e, ap (λ (m : MonitorText). pointsAt (length s) s (m .points)) e ∙ f .points)
+    let all = monitorContents c d rs ps in
+    let e = read-contents t in
+    let bench : OnBench (pointsSaid (pointRows ps)) = rw (said-rows ps) o in
+    let at = pointsFrom (c, (d, tt)) (ruleRows rs) in
+    let given = bench-read s all e bench in
+    (
+      at,
+      given ∙ ap (λ (l : List Rule). readMonitor c d l at) (rules-back rs),
+      ap (λ (m : MonitorText). pointsAt s (m .points)) given ∙ points-again s all e ∙ said-rows ps,
+    )
 
 -- A text with a point whose node is none of the bench's is refused by 19, at the first such point.
 pub monitor-off-bench : {s : List ℕ} {c : ℤ} {d : ℕ} {rs : List Rule} {place : ℕ} → OffBench s c d rs place
     → monitorText s ≡ refusedMonitor (badNode place)
-unfolding monitorText monitorEnd monitorBy
+unfolding monitorText monitorOf benchOr
 monitor-off-bench {s} {c} {d} {rs} {place} o =
-    let f = found (o .text) in
     let ps : List NodeReading = o .before ++ (o .point ∷ o .after) in
     let first : benchPoints ps ≡ length (o .before) = off-place (o .before) (o .point) (o .after) (o .good) (o .bad) in
     let few : benchPoints ps < length ps = omega (arith, length-append (o .before) (o .point ∷ o .after)) in
-    let line : 2 + length rs + benchPoints ps ≡ place = omega (arith, o .line, front-lines c d rs (o .before)) in
-    rw (
-      le-leb (length s) maxText (o .text .short),
-      f .first,
-      f .rules,
-      f .after,
-      f .points,
-      f .end,
-      le-leb (length s) (length s) (le-refl (length s)),
-      lt-ltb (benchPoints ps) (length ps) few,
-      line,
-    )
+    let line : 2 + length (ruleRows rs) + benchPoints ps ≡ place =
+    omega (arith, o .line, lines-length c d rs (o .before), rows-length rs) in
+    rw (read-contents (o .text), said-rows ps, lt-ltb (benchPoints ps) (length ps) few, line)
 
 -- A text is the lines of at most one chart, one list of rules and one list of points.
 pub monitor-text-once : {s : List ℕ} {c c′ : ℤ} {d d′ : ℕ} {rs rs′ : List Rule} {ps ps′ : List NodeReading} → MonitorTextIs s c d rs ps
     → MonitorTextIs s c′ d′ rs′ ps′
     → (c ≡ c′) × (d ≡ d′) × (rs ≡ rs′) × (ps ≡ ps′)
-monitor-text-once t t′ =
-    let f = found t in
-    let g = found t′ in (
-      cc (f .first, g .first),
-      cc (f .first, g .first),
-      cc (f .first, g .first, f .rules, g .rules),
-      cc (f .first, g .first, f .after, g .after, f .points, g .points),
+monitor-text-once {s} {c} {c′} {d} {d′} {rs} {rs′} {ps} {ps′} t t′ =
+    let e = contents-once clear-monitor (t .text) (t′ .text) in
+    (
+      ap (λ (a : Contents monitorGrammar). a .0 .0) e,
+      ap (λ (a : Contents monitorGrammar). a .0 .1 .0) e,
+      sym (rules-back rs) ∙ ap rulesIn e ∙ rules-back rs′,
+      sym (said-rows ps) ∙ ap pointsIn e ∙ said-rows ps′,
     )
 
 -- A text is accepted, by the number 0, exactly where it is the lines of a chart, rules and points of the bench's nodes: then it gives these.
@@ -247,18 +203,18 @@ monitor-accepted s z = go (monitorText s) (monitor-reading s) z
     go : (t : MonitorText) → MonitorReading s t → t .refusal .number ≡ 0
         → (c : ℤ) × (d : ℕ) × (rs : List Rule) × (ps : List NodeReading) × MonitorTextIs s c d rs ps × OnBench ps
     go t (too-long l) z = absurd (omega arith)
-    go t (stopped front rest place l e st p) z = absurd (omega arith)
+    go t (stopped place l st) z = absurd (omega arith)
     go t (off-bench c d rs place o) z = absurd (omega arith)
-    go t (read c d rs at ps i o e) z = (c, d, rs, ps, i, o)
+    go t (read c d rs ps i o) z = (c, d, rs, ps, i, o)
 
 -- The same by the equations with what is read, for the rules that a list has slots for.
 pub monitor-exactly : {s : List ℕ} {c : ℤ} {d : ℕ} {rs : List Rule} (at : ℕ) {ps : List NodeReading} → length rs ≤ maxRules
-    → monitorText s ≡ readMonitor c d rs at ps → monitorPoints s ≡ ps → MonitorTextIs s c d rs ps × OnBench ps
+    → monitorText s ≡ readMonitor c d rs at → monitorPoints s ≡ ps → MonitorTextIs s c d rs ps × OnBench ps
 unfolding readMonitor ruleListOf
 monitor-exactly {s} {c} {d} {rs} at {ps} few e points =
     let a = monitor-accepted s (ap (λ (t : MonitorText). t .refusal .number) e) in
     let r = monitor-read (a .4) (a .5) in
-    let same : readMonitor (a .0) (a .1) (a .2) (r .0) (a .3) ≡ readMonitor c d rs at ps = sym (r .1) ∙ e in
+    let same : readMonitor (a .0) (a .1) (a .2) (r .0) ≡ readMonitor c d rs at = sym (r .1) ∙ e in
     let cs : a .0 ≡ c = ap (λ (t : MonitorText). t .centre) same in
     let ds : a .1 ≡ d = ap (λ (t : MonitorText). t .sigma) same in
     let count : length (a .2) ≡ length rs = ap (λ (t : MonitorText). t .list .len) same in
@@ -270,41 +226,11 @@ monitor-exactly {s} {c} {d} {rs} at {ps} few e points =
         → MonitorTextIs s v′ n′ l′ q′ × OnBench q′
     put a b c d t o = (rw (← a, ← b, ← c, ← d) t, rw (← d) o)
 
--- ---- and a text that goes wrong is refused by 16, there
-
--- no rule follows the rules, where there are points or what is behind them is none
-no-rule-behind : (s : List ℕ) (at end : ℕ) (ps : List NodeReading) → PointsInRange ps → Spans s at (pointLines ps) end
-    → (ps ≡ [] → Begins rule (drop end s) → ⊥) → NotOf rule (lineAt s at)
-unfolding pointLines PointsInRange
-no-rule-behind s at end [] i u nr =
-    let e : end ≡ at = omega (arith, u .end) in
-    rw e at (begins-not s end rule (λ q. omega arith) (nr refl))
-no-rule-behind s at end (p ∷ ps) i u nr = point-no-rule p (i .0) (spans-front (bytesOf (pointLine p)) (pointLines ps) u)
-
--- A text that is right up to the end of `front`, where the next line cannot come next, is refused by 16 with the place behind the LFs of `front`.
-pub monitor-stopped : {s front rest : List ℕ} → length s ≤ maxText → s ≡ front ++ rest → MonitorStops front rest → monitorText s ≡ refusedMonitor (badLine (1 + newlines front))
-unfolding monitorText monitorEnd monitorBy newlines
-monitor-stopped {s} l e (no-chart nc) =
-    let nc′ : Begins chart s → ⊥ = rw e nc in
-    rw (le-leb (length s) maxText l) (chart-passed (lineAt s 0) _ _ (begins-not s 0 chart (λ q. omega arith) nc′))
-monitor-stopped {s} l e (no-point {rest} c d rs ps cr rr pr n nr np) =
-    let C = bytesOf (chartLine c d) in
-    let R = ruleLines rs in
-    let P = pointLines ps in
-    let end = 0 + length (C ++ R ++ P) in
-    let behind : drop end s ≡ rest = drop-behind s 0 (C ++ R ++ P) rest e in
-    let u = spans-of s 0 (C ++ R ++ P) rest e in
-    let front = spans-front (C ++ R) P u in
-    let back = spans-back (C ++ R) P u in
-    let nr′ : ps ≡ [] → Begins rule (drop end s) → ⊥ = rw behind nr in
-    let np′ : Begins point (drop end s) → ⊥ = rw behind np in
-    let first = line-read (Chart c d _) (record { spans = spans-front C R front; range = cr }) in
-    let r = rules-read (length s) rs (omega arith) rr (spans-back C R front) (no-rule-behind s _ end ps pr back nr′) in
-    let p = points-read (length s) ps (omega arith) pr back (begins-not s end point (λ q. omega arith) np′) in
-    let long : end < length s = omega (arith, ap length e, length-append (C ++ R ++ P) rest, nothing-behind rest n) in
-    let place : 2 + length rs + length ps ≡ 1 + newlines (C ++ R ++ P) = omega (arith, front-lines c d rs ps) in
-    rw (le-leb (length s) maxText l, first, r .0, r .1, p .0, p .1, lt-leb (length s) end long, ← place)
+-- Bytes that stop being a text at a line are refused by 16, with that line as the place.
+pub monitor-stopped : {s : List ℕ} {place : ℕ} → length s ≤ maxText → Stops monitorGrammar s place → monitorText s ≡ refusedMonitor (badLine place)
+unfolding monitorText monitorOf
+monitor-stopped {s} l st = rw (is-reading monitorGrammar clear-monitor s (wrong l st))
 
 pub monitor-too-long : (s : List ℕ) → maxText < length s → monitorText s ≡ refusedMonitor tooLong
-unfolding monitorText
-monitor-too-long s l = rw (lt-leb (length s) maxText l)
+unfolding monitorText monitorOf
+monitor-too-long s l = rw (is-reading monitorGrammar clear-monitor s (beyond l))

@@ -20,7 +20,7 @@ monitorNumbers = tooLong .number ∷ badLine 0 .number ∷ badNode 0 .number ∷
 
 monitor-numbers : {s : List ℕ} {n p : ℕ} → MonitorRefusal s n p → OneOf monitorNumbers n
 monitor-numbers (too-long l) = here refl
-monitor-numbers (bad-line front rest place l e st q) = there (here refl)
+monitor-numbers (bad-line place l st) = there (here refl)
 monitor-numbers (bad-node c d rs place o) = there (there (here refl))
 monitor-numbers (bad-rules c d rs ps x is o q r) = there (there (there (there r)))
 monitor-numbers (bad-sigma c d rs ps is o ok b) = there (there (there (here refl)))

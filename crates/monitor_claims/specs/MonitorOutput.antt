@@ -1,8 +1,8 @@
 -- TO BELIEVE: what the monitor program's printed bytes are claimed to be: one refusal line and its reason, or the lines of what the plain chart of
 -- each node says. Definitions.
-use Prim.Native.Nat.{ℕ, _+_, _-_, _≤_, _<_}
+use Prim.Native.Nat.{ℕ, _-_, _≤_, _<_}
 use mathlib.Core.Path.{_≡_}
-use mathlib.Core.List.{List, [], _++_}
+use mathlib.Core.List.{List, []}
 use lib.IntN.{ℤ}
 use lib.ListN.{length}
 use Rattle.rules.specs.declared.Rule.{Rule}
@@ -14,15 +14,16 @@ use Rattle.rules.specs.Numbers.{OneOf, ruleNumbers}
 use Rattle.monitor.specs.Zone.{minSigma, maxSigma}
 use Rattle.window.specs.ReferenceChart.{Answer, chartAnswers}
 use Rattle.monitor.specs.Calls.{Said, EachAnswer}
-use Rattle.text.specs.Size.{maxText}
-use Rattle.text.specs.Newlines.{newlines}
+use Rattle.grammar.specs.Size.{maxText}
+use Rattle.grammar.specs.Grammar.{Stops}
 use Rattle.rule_lines.specs.Rules.{ruleListOf}
-use Rattle.parse.specs.Readings.{NodeReading, OnBench, readingsOf}
+use Rattle.monitor_text.specs.Readings.{NodeReading, OnBench, readingsOf}
+use Rattle.monitor_text.specs.MonitorGrammar.{monitorGrammar}
 use Rattle.write.specs.Refused.{refusedLine}
 use Rattle.monitor_report.specs.Points.{benchBytes}
 use Rattle.monitor.specs.Zones.{zonesOf}
 use Rattle.claims.specs.Exact.{freeAnswers}
-use Rattle.monitor_claims.specs.MonitorTexts.{MonitorTextIs, OffBench, MonitorStops}
+use Rattle.monitor_claims.specs.MonitorTexts.{MonitorTextIs, OffBench}
 
 -- the plain chart on the zones of readings: what it answers to them, one by one, from an empty row
 abbrev pub plainChart : List Rule → ℤ → ℕ → List ℤ → List Answer
@@ -38,8 +39,7 @@ pub record MonitorPrints (centre : ℤ) (sigma : ℕ) (rs : List Rule) (ps : Lis
 
 pub data MonitorRefusal (s : List ℕ) : ℕ → ℕ → Type 0 where
   too-long : maxText < length s → MonitorRefusal s (tooLong .number) 0
-  bad-line : (front rest : List ℕ) (place : ℕ) → length s ≤ maxText → s ≡ front ++ rest → MonitorStops front rest → place ≡ 1 + newlines front
-      → MonitorRefusal s (badLine place .number) place
+  bad-line : (place : ℕ) → length s ≤ maxText → Stops monitorGrammar s place → MonitorRefusal s (badLine place .number) place
   bad-node : (centre : ℤ) (sigma : ℕ) (rs : List Rule) (place : ℕ) → OffBench s centre sigma rs place → MonitorRefusal s (badNode place .number) place
   bad-rules : (centre : ℤ) (sigma : ℕ) (rs : List Rule) (ps : List NodeReading) (x : Refusal) → MonitorTextIs s centre sigma rs ps → OnBench ps
       → checkOf (ruleListOf rs) ≡ Refused x → OneOf ruleNumbers (x .number) → MonitorRefusal s (x .number) (x .place)

@@ -11,7 +11,7 @@ use Rattle.monitor.specs.Calls.{Said, EachAnswer}
 use Rattle.write.specs.Refused.{refusedLine}
 use Rattle.monitor_report.specs.MonitorLines.{quietLine, signalLine, totalLine}
 use Rattle.write.specs.Printed.{printedBytes}
-use Rattle.parse.specs.Readings.{NodeReading, nodeCount, readingsOf}
+use Rattle.monitor_text.specs.Readings.{NodeReading, nodeCount, readingsOf}
 use Rattle.monitor_report.specs.Points.{NodeAnswer, nodeAnswer, NodeTotal, lastAnswer, pointAnswer, benchAnswers, benchTotals}
 use Rattle.monitor.specs.Zones.{zonesOf}
 use Rattle.monitor_report.specs.Points.{lineOf, answerLines, totalLines, benchBytes}

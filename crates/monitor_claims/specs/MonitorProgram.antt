@@ -22,12 +22,13 @@ use Rattle.rules.specs.Bounds.{maxNumber}
 use Rattle.window.specs.ReferenceChart.{quiet, signal, rowMask, charted}
 use Rattle.monitor.specs.Calls.{Said, EachAnswer}
 use Rattle.monitor.specs.Agreement.{agreement}
-use Rattle.parse.specs.declared.monitors.MonitorText.{MonitorText}
+use Rattle.monitor_text.specs.declared.monitors.MonitorText.{MonitorText}
 use Rattle.rule_lines.specs.Rules.{ruleListOf}
-use Rattle.parse.specs.Readings.{NodeReading, OnBench, readingsOf}
+use Rattle.monitor_text.specs.Readings.{NodeReading, OnBench, readingsOf}
 use Rattle.rule_lines.specs.RulesLaws.{active-rules, rules-few}
-use Rattle.parse.specs.ReadingsLaws.{points-fit, readings-few}
-use Rattle.parse.specs.MonitorText.{refusedMonitor, readMonitor, monitorText, monitorPoints}
+use Rattle.monitor_text.specs.ReadingsLaws.{readings-few}
+use Rattle.monitor_text.specs.PointTurnLaws.{points-fit}
+use Rattle.monitor_text.specs.MonitorText.{refusedMonitor, readMonitor, monitorText, monitorPoints}
 use Rattle.write.specs.Printed.{printedBy, printedBytes}
 use Rattle.monitor_report.specs.Points.{benchBytes}
 use Rattle.monitor.specs.Zones.{zonesOf}
@@ -115,9 +116,9 @@ monitor-program s = go (monitorText s) (monitor-reading s) (monitorPoints s) (λ
         → ((c : ℤ) (d : ℕ) (rs : List Rule) (ps : List NodeReading) → MonitorTextIs s c d rs ps → OnBench ps → qs ≡ ps)
         → MonitorProgram s (printedBytes (printedBy (monitorCheck t) (benchBytes (readingAnswers (t .list) (t .centre) (t .sigma)) qs)))
     go t (too-long l) qs f = monitor-refuses 17 0 refl (monitor-too-long l)
-    go t (stopped front rest place l e st p) qs f = monitor-refuses 16 place refl (monitor-bad-line front rest place l e st p)
+    go t (stopped place l st) qs f = monitor-refuses 16 place refl (monitor-bad-line place l st)
     go t (off-bench c d rs place o) qs f = monitor-refuses 19 place refl (bad-node c d rs place o)
-    go t (read c d rs at ps i o e) qs f = rw (f c d rs ps i o) (by-check s c d rs ps i o (text-few i o) (checkOf (ruleListOf rs)) refl)
+    go t (read c d rs ps i o) qs f = rw (f c d rs ps i o) (by-check s c d rs ps i o (text-few i o) (checkOf (ruleListOf rs)) refl)
 
 -- The other way round: a text that is the lines of a chart, rules and points which are in bounds is not refused.
 pub monitor-printed : {s : List ℕ} {c : ℤ} {d : ℕ} {rs : List Rule} {ps : List NodeReading} → MonitorTextIs s c d rs ps → OnBench ps
@@ -142,7 +143,7 @@ monitor-printed {s} {c} {d} {rs} {ps} is o ok bounds = go (monitor-program s)
 
     go : MonitorProgram s (printedBytes (monitorPrinted s)) → MonitorPrints c d rs ps (printedBytes (monitorPrinted s))
     go (monitor-refuses n p e (monitor-too-long l)) = clash (text-too-long s l) (λ z. omega arith)
-    go (monitor-refuses n p e (monitor-bad-line front rest place l q st r)) = clash (monitor-stopped l q st) (λ z. omega arith)
+    go (monitor-refuses n p e (monitor-bad-line place l st)) = clash (monitor-stopped l st) (λ z. omega arith)
     go (monitor-refuses n p e (bad-node c′ d′ rs′ place off)) = clash (monitor-off-bench off) (λ z. omega arith)
     go (monitor-refuses n p e (bad-rules c′ d′ rs′ ps′ x is′ o′ q r)) = absurd (checked is′ q)
     go (monitor-refuses n p e (bad-sigma c′ d′ rs′ ps′ is′ o′ q b)) = absurd (b (rw (← (monitor-text-once is is′ .1)) bounds))

@@ -1,30 +1,27 @@
--- TO BELIEVE: the bytes of a whole monitor text, and where one goes wrong: nothing here reads at an offset. Definitions.
+-- TO BELIEVE: what it is for bytes to be a monitor text, which point of one is none of the bench's, and what is read of bytes. Nothing here reads.
+-- Definitions.
 use Prim.Native.Nat.{ℕ, _+_, _≤_, _<_}
 use mathlib.Core.Path.{_≡_}
-use mathlib.Core.List.{List, [], _∷_, _++_}
+use mathlib.Core.List.{List, _∷_, _++_}
 use lib.IntN.{ℤ}
 use lib.ListN.{length}
 use Rattle.rules.specs.declared.Rule.{Rule}
-use Rattle.text.specs.Newlines.{newlines}
-use Rattle.text.specs.Kind.{rule, chart, point}
-use Rattle.text.specs.Format.{bytesOf, InRange}
-use Rattle.parse.specs.declared.monitors.MonitorText.{MonitorText}
 use Rattle.rules.specs.Refusal.{badLine, tooLong, badNode}
-use Rattle.text.specs.Size.{maxText}
-use Rattle.parse.specs.Readings.{NodeReading, nodeCount, OnBench}
-use Rattle.parse.specs.MonitorText.{refusedMonitor, readMonitor}
-use Rattle.text_claims.specs.Texts.{chartLine, ruleLines, pointLines, RulesInRange, PointsInRange, Begins}
+use Rattle.grammar.specs.Size.{maxText}
+use Rattle.grammar.specs.Grammar.{linesOf, TextIs, Stops}
+use Rattle.rule_lines.specs.Rules.{ruleRows}
+use Rattle.monitor_text.specs.declared.monitors.MonitorText.{MonitorText}
+use Rattle.monitor_text.specs.Readings.{NodeReading, nodeCount, OnBench}
+use Rattle.monitor_text.specs.MonitorGrammar.{monitorGrammar, monitorContents}
+use Rattle.monitor_text.specs.MonitorText.{refusedMonitor, readMonitor, pointsFrom}
 
--- s is the monitor text of this chart, these rules and these points, whatever their nodes
+-- s is the monitor text of this chart, these rules and these points, whatever their nodes: their lines, one behind the other, and nothing else, every
+-- number within 32 bits
 pub record MonitorTextIs (s : List ℕ) (centre : ℤ) (sigma : ℕ) (rs : List Rule) (ps : List NodeReading) : Type 0 where
-  pub bytes : s ≡ bytesOf (chartLine centre sigma) ++ ruleLines rs ++ pointLines ps
+  pub text : TextIs monitorGrammar (monitorContents centre sigma rs ps) s
   pub short : length s ≤ maxText
-  pub chart-range : InRange (chartLine centre sigma)
-  pub rules-range : RulesInRange rs
-  pub points-range : PointsInRange ps
 
--- and one of the points has a node that is none of the bench's: the first such point is the line `place`, from 1, which is one more than the
--- LFs before it
+-- and one of the points has a node that is none of the bench's: the first such point is the line `place`, from 1, behind the lines before it
 pub record OffBench (s : List ℕ) (centre : ℤ) (sigma : ℕ) (rs : List Rule) (place : ℕ) : Type 0 where
   pub before : List NodeReading
   pub point : NodeReading
@@ -32,27 +29,13 @@ pub record OffBench (s : List ℕ) (centre : ℤ) (sigma : ℕ) (rs : List Rule)
   pub text : MonitorTextIs s centre sigma rs (before ++ (point ∷ after))
   pub good : OnBench before
   pub bad : nodeCount ≤ point .node
-  pub line : place ≡ 1 + newlines (bytesOf (chartLine centre sigma) ++ ruleLines rs ++ pointLines before)
+  pub line : place ≡ 1 + length (linesOf monitorGrammar (monitorContents centre sigma rs before))
 
--- ---- where a text goes wrong
-
--- a monitor text is right up to the end of `front`, and the line that `rest` begins with is not one that can come next; a rule can come next only
--- where there are no points yet
-pub data MonitorStops : List ℕ → List ℕ → Type 0 where
-  no-chart : {rest : List ℕ} → (Begins chart rest → ⊥) → MonitorStops [] rest
-  no-point : {rest : List ℕ} (centre : ℤ) (sigma : ℕ) (rs : List Rule) (ps : List NodeReading) → InRange (chartLine centre sigma)
-      → RulesInRange rs → PointsInRange ps
-      → (rest ≡ [] → ⊥) → (ps ≡ [] → Begins rule rest → ⊥) → (Begins point rest → ⊥)
-      → MonitorStops (bytesOf (chartLine centre sigma) ++ ruleLines rs ++ pointLines ps) rest
-
--- ---- what is read of a text: 17; or 16, at the place of the line where it goes wrong, from 1, which is one more than the LFs before it; then 19; or all
--- of it
-
+-- what is read of a text: 17; or 16, at the line where it stops being one; then 19; or all of it, and where the points begin
 pub data MonitorReading (s : List ℕ) : MonitorText → Type 0 where
   too-long : maxText < length s → MonitorReading s (refusedMonitor tooLong)
-  stopped : (front rest : List ℕ) (place : ℕ) → length s ≤ maxText → s ≡ front ++ rest → MonitorStops front rest → place ≡ 1 + newlines front
-      → MonitorReading s (refusedMonitor (badLine place))
+  stopped : (place : ℕ) → length s ≤ maxText → Stops monitorGrammar s place → MonitorReading s (refusedMonitor (badLine place))
   off-bench : (centre : ℤ) (sigma : ℕ) (rs : List Rule) (place : ℕ) → OffBench s centre sigma rs place
       → MonitorReading s (refusedMonitor (badNode place))
-  read : (centre : ℤ) (sigma : ℕ) (rs : List Rule) (at : ℕ) (ps : List NodeReading) → MonitorTextIs s centre sigma rs ps → OnBench ps
-      → at ≡ length (bytesOf (chartLine centre sigma) ++ ruleLines rs) → MonitorReading s (readMonitor centre sigma rs at ps)
+  read : (centre : ℤ) (sigma : ℕ) (rs : List Rule) (ps : List NodeReading) → MonitorTextIs s centre sigma rs ps → OnBench ps
+      → MonitorReading s (readMonitor centre sigma rs (pointsFrom (centre, (sigma, tt)) (ruleRows rs)))

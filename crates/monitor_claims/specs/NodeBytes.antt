@@ -12,9 +12,9 @@ use borrow.Author.Tests.{eq-eqb, ne-eqb}
 use Rattle.window.specs.ReferenceChart.{Answer, refused, quiet, signal}
 use Rattle.monitor.specs.Calls.{Said}
 use Rattle.decimal.specs.Fields.{fields}
-use Rattle.text.specs.Newlines.{newlines}
-use Rattle.parse.specs.Readings.{NodeReading, nodeCount, readingsOf}
-use Rattle.parse.specs.ReadingsLaws.{readings-append, reading-other}
+use Rattle.grammar.specs.Newlines.{newlines}
+use Rattle.monitor_text.specs.Readings.{NodeReading, nodeCount, readingsOf}
+use Rattle.monitor_text.specs.ReadingsLaws.{readings-append, reading-other}
 use Rattle.monitor_report.specs.MonitorLines.{quietWord, signalWord, totalWord, totalLine}
 use Rattle.monitor_report.specs.Points.{NodeAnswer, nodeAnswer, NodeTotal, lastAnswer, pointAnswer, benchAnswers, nodeTotal, benchTotals}
 use Rattle.monitor_report.specs.Points.{lineOf, answerLines, totalLines, benchBytes}

@@ -9,8 +9,8 @@ use borrow.Author.Tests.{eq-eqb, ne-eqb, eqb-true}
 use Rattle.decimal.specs.Decimal.{digitByte, digitsOf, decimal}
 use Rattle.decimal.specs.Fields.{field, fields}
 use Rattle.decimal.specs.FieldsLaws.{fields-snoc}
-use Rattle.text.specs.Newlines.{newlines}
-use Rattle.text.specs.NewlineLaws.{newlines-append, newlines-fields}
+use Rattle.grammar.specs.Newlines.{newlines}
+use Rattle.grammar.specs.NewlineLaws.{newlines-append, newlines-fields}
 use Rattle.text_claims.specs.NumberOnce.{decimal-once}
 use Rattle.monitor_claims.specs.NodeLines.{linesIn, beforeComma, behindComma, sameBytes, ofNode}
 use Rattle.monitor_claims.specs.NodeLines.{ofPoint, pointsIn, sinceComma, lastField, withNode, withPeriods}

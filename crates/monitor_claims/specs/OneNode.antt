@@ -10,7 +10,7 @@ use Rattle.rules.specs.declared.Rule.{Rule}
 use Rattle.window.specs.ReferenceChart.{Answer, refused, quiet, signal}
 use Rattle.monitor.specs.Calls.{Said}
 use Rattle.decimal.specs.Fields.{fields}
-use Rattle.parse.specs.Readings.{NodeReading, nodeCount, readingsOf}
+use Rattle.monitor_text.specs.Readings.{NodeReading, nodeCount, readingsOf}
 use Rattle.monitor_report.specs.MonitorLines.{quietWord, signalWord, totalWord}
 use Rattle.write.specs.Printed.{printedBytes}
 use Rattle.monitor_report.specs.Points.{NodeAnswer, NodeTotal, lastAnswer, pointAnswer, benchAnswers, nodeTotal, benchTotals}

@@ -13,7 +13,7 @@ use Rattle.rules.specs.declared.Rule.{Rule}
 use Rattle.window.specs.ReferenceChart.{Answer, refused, quiet, signal, rowMask, chartBy}
 use Rattle.monitor.specs.Calls.{Said, EachAnswer}
 use Rattle.decimal.specs.Decimal.{decimal}
-use Rattle.parse.specs.Readings.{NodeReading, nodeCount, OnBench, readingsOf}
+use Rattle.monitor_text.specs.Readings.{NodeReading, nodeCount, OnBench, readingsOf}
 use Rattle.monitor_report.specs.MonitorLines.{quietWord, signalWord, totalWord}
 use Rattle.write.specs.Printed.{printedBytes}
 use Rattle.monitor_report.specs.Points.{NodeAnswer, nodeAnswer, NodeTotal, signalsIn, benchAnswers, nodeTotal, benchTotals}
