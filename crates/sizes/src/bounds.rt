@@ -28,7 +28,7 @@ pub fn charts() {
 pub fn texts() {
     line(b"MAX_TEXT,", text::MAX_TEXT as u64);
     line(b"MAX_ROWS,", table_lines::MAX_ROWS as u64);
-    line(b"NODES,", parse::NODES as u64);
+    line(b"NODES,", monitor_text::NODES as u64);
     line(b"TABLE_SIZE,", table_report::TABLE_SIZE as u64);
     line(b"MONITOR_SIZE,", monitor_report::MONITOR_SIZE as u64);
     line(b"WEIGHTS_SIZE,", weights_report::WEIGHTS_SIZE as u64);
