@@ -5,6 +5,8 @@ mod rooms;
 mod rows;
 mod tables;
 
+pub use percents::put_percent;
 pub use rooms::MAX_ROWS;
 pub use rooms::TABLE_ROOM;
+pub use rows::put_standings;
 pub use tables::put_table;

@@ -28,7 +28,7 @@ fn put_place(out: &mut [u8], at: usize, place: Place) -> usize
 }
 
 // The line of a percent and where its percentile lies.
-fn put_percent(out: &mut [u8], at: usize, percent: u32, place: Place) -> usize
+pub fn put_percent(out: &mut [u8], at: usize, percent: u32, place: Place) -> usize
     requires { ⌜ at + percentRoom ≤ length (now out) ⌝ }
     ensures { λ r. ⌜ Wrote (now (out .entry)) at (now (out .exit)) r (percentLine percent place) ⌝ }
     ensures { λ r. ⌜ r ≤ at + percentRoom ⌝ }
@@ -39,7 +39,7 @@ fn put_percent(out: &mut [u8], at: usize, percent: u32, place: Place) -> usize
 }
 
 // The lines of the percents 5, 25, 50, 75, 95.
-pub fn put_percents(out: &mut [u8], at: usize, summary: Summary) -> usize
+pub(crate) fn put_percents(out: &mut [u8], at: usize, summary: Summary) -> usize
     requires { ⌜ at + percentsRoom ≤ length (now out) ⌝ }
     ensures { λ r. ⌜ Wrote (now (out .entry)) at (now (out .exit)) r (percentLines summary) ⌝ }
     ensures { λ r. ⌜ r ≤ at + percentsRoom ⌝ }

@@ -23,7 +23,7 @@ pub fn put_standings(out: &mut [u8], at: usize, state_count: u32) -> usize
 }
 
 // The line `n,chance,by,left`.
-pub fn put_header(out: &mut [u8], at: usize) -> usize
+pub(crate) fn put_header(out: &mut [u8], at: usize) -> usize
     requires { ⌜ at + headerRoom ≤ length (now out) ⌝ }
     ensures { λ r. ⌜ Wrote (now (out .entry)) at (now (out .exit)) r headerLine ⌝ }
     ensures { λ r. ⌜ r ≤ at + headerRoom ⌝ }
@@ -45,7 +45,7 @@ fn put_row(out: &mut [u8], at: usize, n: u64, pmf: u64, cdf: u64, survival: u64)
 }
 
 // The rows 1 to h, by the chances and what is left; the sum of the chances is at most probability one.
-pub fn put_rows(out: &mut [u8], at: usize, h: usize, pmf: &[u64], survival: &[u64]) -> usize
+pub(crate) fn put_rows(out: &mut [u8], at: usize, h: usize, pmf: &[u64], survival: &[u64]) -> usize
     requires { ⌜ at + rowRoom * h ≤ length (now out) ⌝ }
     requires { ⌜ (h ≤ length (now pmf)) × (h ≤ length (now survival)) ⌝ }
     requires { ⌜ cdfOf (now pmf) h ≤ unitsPerOne ⌝ }
@@ -64,7 +64,7 @@ pub fn put_rows(out: &mut [u8], at: usize, h: usize, pmf: &[u64], survival: &[u6
 }
 
 // The line `arl,whole,fraction,shortfall`: the mean, and its error bound.
-pub fn put_arl(out: &mut [u8], at: usize, whole: u64, fraction: u64, error: u64) -> usize
+pub(crate) fn put_arl(out: &mut [u8], at: usize, whole: u64, fraction: u64, error: u64) -> usize
     requires { ⌜ at + arlRoom ≤ length (now out) ⌝ }
     ensures { λ r. ⌜ Wrote (now (out .entry)) at (now (out .exit)) r (arlLine whole fraction error) ⌝ }
     ensures { λ r. ⌜ r ≤ at + arlRoom ⌝ }
