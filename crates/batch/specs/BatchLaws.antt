@@ -1,16 +1,14 @@
 -- Laws of a batch: what it is refused by, how it ends, and one reading more of those that are left.
 use mathlib.Core.Path.{_≡_, refl, sym, ap, _∙_}
-use mathlib.Core.Bool.{Bool, true, false, cond}
+use mathlib.Core.Bool.{true, false}
 use mathlib.Core.Logic.{⊎-elim}
 use mathlib.Core.List.{List, [], _∷_}
 use Prim.Native.Nat.{ℕ, _+_, _≤_, _<_}
 use native.Mathlib.Numerals.{add-one}
 use native.Mathlib.Omega.{arith}
-use lib.Dec.{eqb}
 use lib.IntN.{ℤ, pos}
 use lib.ListN.{length, drop, getD, drop-of-length-le}
 use lib.Seq.{drop-cons}
-use borrow.Author.Tests.{eq-eqb, ne-eqb}
 use Rattle.rules.specs.declared.RuleList.{RuleList}
 use Rattle.rules.specs.declared.Checked.{Checked}
 use Rattle.rules.specs.declared.Checked.the-variants.{Accepted}
@@ -19,10 +17,10 @@ use Rattle.rules.specs.Bounds.{maxNumber}
 use Rattle.rules.specs.Check.{within, activeRules, checkOf}
 use Rattle.rules.specs.Refusal.{notRefused, badSigma, badState, badCount}
 use Rattle.monitor.specs.declared.Monitor.{Monitor}
-use Rattle.monitor.specs.declared.Step.{Step}
 use Rattle.monitor.specs.declared.Taken.{Taken}
 use Rattle.window.specs.State.{validState}
-use Rattle.monitor.specs.StepLaws.{stepTaken}
+use Rattle.monitor.specs.Step.{freshMonitor}
+use Rattle.monitor.specs.Take.{nextOf, stepTaken}
 use Rattle.window.specs.WindowLaws.{le-or-lt}
 use Rattle.monitor.specs.Reading.{readingStep, readingCheck, Readable, pointAt}
 use Rattle.monitor.specs.ReadingLaws.{reading-refused, reading-accepted, check-bad-rules, check-bad-sigma, check-bad-state, check-bad-count, check-accepted}
@@ -77,19 +75,16 @@ ends-after b (unrefused e) = unrefused e
 ends-after b (full e t c) = full e (omega arith) c
 
 -- by the step of a reading that is taken
-ends-taken : (m : Monitor) (count : ℕ) (t : Taken) (rest : Monitor → Batch) → Ends (after 1 (rest (t .next))) → Ends (batchBy m (stepTaken count t) rest)
-ends-taken m count t rest e = go (eqb (t .mask) 0)
-  where
-    go : (b : Bool) → Ends (batchBy m (cond b (Step.Quiet count (t .next)) (Step.Signal count (t .mask) (t .next))) rest)
-    go true = e
-    go false = unrefused refl
+ends-taken : (m : Monitor) (count : ℕ) (t : Taken) (rest : Monitor → Batch) → Ends (after 1 (rest (nextOf t))) → Ends (batchBy m (stepTaken count t) rest)
+ends-taken m count (Taken.Quiet next) rest e = e
+ends-taken m count (Taken.Signal mask) rest e = unrefused refl
 
 module _ (l : RuleList) (centre : ℤ) (sigma : ℕ) where
   abbrev readings : List ℤ → Monitor → Batch
   readings xs m = readingsFrom l m centre sigma xs
 
   first-ends : (x : ℤ) (xs : List ℤ) (m : Monitor) → Readable l sigma m → m .count < maxNumber
-      → Ends (after 1 (readings xs (pointAt l m centre sigma x .next))) → Ends (readings (x ∷ xs) m)
+      → Ends (after 1 (readings xs (nextOf (pointAt l m centre sigma x)))) → Ends (readings (x ∷ xs) m)
   unfolding readingsFrom
   first-ends x xs m r q e = rw (reading-taken l m centre sigma x r q) (ends-taken m (m .count + 1) (pointAt l m centre sigma x) (readings xs) e)
 
@@ -102,7 +97,7 @@ module _ (l : RuleList) (centre : ℤ) (sigma : ℕ) where
       (λ (q : maxNumber ≤ m .count). rw (reading-bad-count l m centre sigma x r q) (full refl (omega arith) q))
       (λ (q : m .count < maxNumber).
       ends-after (readings (x ∷ xs) m)
-      (first-ends x xs m r q (later-ends xs (pointAt l m centre sigma x .next) (reading-next l m centre sigma x r))))
+      (first-ends x xs m r q (later-ends xs (nextOf (pointAt l m centre sigma x)) (reading-next l m centre sigma x r))))
       (le-or-lt maxNumber (m .count))
 
   -- A batch that is not refused took its readings up to a signal or the end, or met a full count behind readings that it took: only 7 can
@@ -113,7 +108,7 @@ module _ (l : RuleList) (centre : ℤ) (sigma : ℕ) where
   batch-ends m (x ∷ xs) e =
       let r = reading-accepted l m sigma e in
       rw (by-check l m centre sigma (x ∷ xs) Accepted e)
-      (first-ends x xs m (r .0) (r .1) (later-ends xs (pointAt l m centre sigma x .next) (reading-next l m centre sigma x (r .0))))
+      (first-ends x xs m (r .0) (r .1) (later-ends xs (nextOf (pointAt l m centre sigma x)) (reading-next l m centre sigma x (r .0))))
 
 -- ---- the readings left, from i on
 
@@ -155,16 +150,15 @@ module _ {l : RuleList} {start : Monitor} {centre : ℤ} {sigma : ℕ} {xs : Lis
         left-first ∙ rw (reading-bad-count l m centre sigma x (left .readable) q, e)
 
     -- the point at it
-    module _ (q : m .count < maxNumber) {t : Taken} (p : t ≡ pointAt l m centre sigma x) where
-      pub left-signal : (t .mask ≡ 0 → ⊥) → readingsFrom l start centre sigma xs
-          ≡ record { taken = i + 1; refusal = notRefused; count = m .count + 1; mask = t .mask; next = t .next }
-      left-signal e = left-first ∙ rw (reading-taken l m centre sigma x (left .readable) q, ← p, ne-eqb (t .mask) 0 e)
+    pub left-signal : {mask : ℕ} → m .count < maxNumber → Taken.Signal mask ≡ pointAt l m centre sigma x → readingsFrom l start centre sigma xs
+        ≡ record { taken = i + 1; refusal = notRefused; count = m .count + 1; mask = mask; next = freshMonitor }
+    left-signal q p = left-first ∙ rw (reading-taken l m centre sigma x (left .readable) q, ← p)
 
-      pub left-quiet : t .mask ≡ 0 → Left l start centre sigma xs (t .next) (i + 1)
-      left-quiet e = record {
-        readable = rw p (reading-next l m centre sigma x (left .readable));
-        same =
-            left-first
-            ∙ rw (reading-taken l m centre sigma x (left .readable) q, ← p, eq-eqb (t .mask) 0 e)
-            (after-after i (readingsFrom l (t .next) centre sigma (drop (i + 1) xs)));
-      }
+    pub left-quiet : {next : Monitor} → m .count < maxNumber → Taken.Quiet next ≡ pointAt l m centre sigma x → Left l start centre sigma xs next (i + 1)
+    left-quiet {next} q p = record {
+      readable = rw (ap nextOf p) (reading-next l m centre sigma x (left .readable));
+      same =
+          left-first
+          ∙ rw (reading-taken l m centre sigma x (left .readable) q, ← p)
+          (after-after i (readingsFrom l next centre sigma (drop (i + 1) xs)));
+    }

@@ -1,5 +1,6 @@
 // A batch of readings on one chart: what the rule list alone decides is decided once.
 use monitor::Monitor;
+use monitor::Taken;
 use monitor::zone::sigma_fits;
 use monitor::zone::zone_at;
 use rules::Checked;
@@ -67,19 +68,18 @@ fn take_accepted(
                 next: at,
             };
         }
-        let point = at.take(list, zone_at(readings[i], centre, sigma));
-        let mask = point.mask;
-        let next = point.next;
-        if mask != 0 {
-            return Batch {
-                taken: i + 1,
-                refusal: NO_REFUSAL,
-                count: points + 1,
-                mask,
-                next,
-            };
+        match at.take(list, zone_at(readings[i], centre, sigma)) {
+            Taken::Quiet(next) => at = next,
+            Taken::Signal(mask) => {
+                return Batch {
+                    taken: i + 1,
+                    refusal: NO_REFUSAL,
+                    count: points + 1,
+                    mask,
+                    next: Monitor::fresh(),
+                };
+            }
         }
-        at = next;
         i += 1;
     }
     Batch {

@@ -15,7 +15,7 @@ use Rattle.rules.specs.Check.{activeRules, checkOf}
 use Rattle.monitor.specs.declared.Monitor.{Monitor}
 use Rattle.window.specs.declared.Move.{Move}
 use Rattle.monitor.specs.declared.Step.the-variants.{Refused}
-use Rattle.window.specs.State.{validState, stateMask, moveOf}
+use Rattle.window.specs.State.{validState, moveOf}
 use Rattle.window.specs.Givable.{GivableState}
 use Rattle.window.specs.ValidLaws.{state-exactly}
 use Rattle.window.specs.WindowLaws.{le-or-lt}
@@ -33,9 +33,9 @@ use Rattle.plot.specs.Plot.{plotBy, boxPlotOf}
 -- ---- refusal 5
 
 -- the answer to a point is no refusal
-answered : (t : Move) (mask count : ℕ) (x : Refusal) → stepAnswer t mask count ≡ Refused x → ⊥
-answered (Move.Quiet s) mask count x e = let z : _≡_ {A = ℕ} 0 1 = cc in omega arith
-answered Move.Signal mask count x e = let z : _≡_ {A = ℕ} 0 1 = cc in omega arith
+answered : (t : Move) (count : ℕ) (x : Refusal) → stepAnswer t count ≡ Refused x → ⊥
+answered (Move.Quiet s) count x e = let z : _≡_ {A = ℕ} 0 1 = cc in omega arith
+answered (Move.Signal mask) count x e = let z : _≡_ {A = ℕ} 0 1 = cc in omega arith
 
 module _ (rs : List Rule) (m : Monitor) (z : ℕ) (zone : z < zoneCount) where
   valid-taken : validState (m .count) rs (m .state) ≡ true → acceptedStep rs m z ≡ Refused badState → ⊥
@@ -46,7 +46,7 @@ module _ (rs : List Rule) (m : Monitor) (z : ℕ) (zone : z < zoneCount) where
       let n : badCount ≡ badState = cc in
       omega (arith, ap (λ (x : Refusal). x .number) n))
       (λ (h : m .count < maxNumber).
-      answered (moveOf rs (m .state) z) (stateMask rs (m .state) z) (m .count + 1) badState (sym (step-move rs m z zone v h) ∙ e))
+      answered (moveOf rs (m .state) z) (m .count + 1) badState (sym (step-move rs m z zone v h) ∙ e))
       (le-or-lt maxNumber (m .count))
 
 -- With accepted rules and a zone that exists, a step is refused by 5 exactly when the state cannot be given: when it is not so that no window has k

@@ -92,9 +92,9 @@ pub step-number : (l : RuleList) (m : Monitor) (z : ℕ) (x : Refusal) → stepC
 unfolding stepOf acceptedStep
 step-number l m z x e = by-list (checkOf l) refl e
   where
-    answered : (t : Move) (mask count : ℕ) (y : Refusal) → stepChecked (stepAnswer t mask count) ≡ Refused y → ⊥
-    answered (Move.Quiet s) mask count y e = not-both y e
-    answered Move.Signal mask count y e = not-both y e
+    answered : (t : Move) (count : ℕ) (y : Refusal) → stepChecked (stepAnswer t count) ≡ Refused y → ⊥
+    answered (Move.Quiet s) count y e = not-both y e
+    answered (Move.Signal mask) count y e = not-both y e
 
     ordered : (zone state count : Bool) (a : Step) → ((y : Refusal) → stepChecked a ≡ Refused y → ⊥) → stepChecked (stepOrder zone state count a) ≡ Refused x
         → OneOf stepNumbers (x .number)
@@ -105,8 +105,8 @@ step-number l m z x e = by-list (checkOf l) refl e
 
     by-list : (c : Checked) → checkOf l ≡ c → stepChecked (stepBy c (activeRules l) m z) ≡ Refused x → OneOf stepNumbers (x .number)
     by-list Accepted q e = ordered (ltb z zoneCount) (validState (m .count) (activeRules l) (m .state)) (ltb (m .count) maxNumber)
-        (stepAnswer (moveOf (activeRules l) (m .state) z) (stateMask (activeRules l) (m .state) z) (m .count + 1))
-        (answered (moveOf (activeRules l) (m .state) z) (stateMask (activeRules l) (m .state) z) (m .count + 1)) e
+        (stepAnswer (moveOf (activeRules l) (m .state) z) (m .count + 1))
+        (answered (moveOf (activeRules l) (m .state) z) (m .count + 1)) e
     by-list (Refused y) q e = step-rules (list-number l x (q ∙ e))
 
 pub batch-number : (l : RuleList) (m : Monitor) (sigma : ℕ) (x : Refusal) → readingCheck l m sigma ≡ Refused x → OneOf batchNumbers (x .number)

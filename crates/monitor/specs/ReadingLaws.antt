@@ -18,7 +18,8 @@ use Rattle.monitor.specs.declared.Monitor.{Monitor}
 use Rattle.monitor.specs.declared.Step.the-variants.{Refused}
 use Rattle.window.specs.State.{validState}
 use Rattle.monitor.specs.Step.{acceptedStep}
-use Rattle.monitor.specs.StepLaws.{rules-accepted, step-bad-state, step-bad-count, stepTaken, step-take}
+use Rattle.monitor.specs.StepLaws.{rules-accepted, step-bad-state, step-bad-count, step-take}
+use Rattle.monitor.specs.Take.{nextOf, stepTaken}
 use Rattle.monitor.specs.TakeLaws.{taken-valid}
 use Rattle.monitor.specs.Zone.{minSigma, maxSigma, zoneAt}
 use Rattle.monitor.specs.ZoneLaws.{zone-fits, zone-refused, zone-exists}
@@ -61,7 +62,7 @@ module _ (l : RuleList) (m : Monitor) (centre : ℤ) (sigma : ℕ) (x : ℤ) whe
         ∙ step-take (activeRules l) m z (zone-exists (x -ℤ centre) sigma) (r .valid) h
 
     -- and then only the count can refuse the next reading
-    pub reading-next : Readable l sigma (pointAt l m centre sigma x .next)
+    pub reading-next : Readable l sigma (nextOf (pointAt l m centre sigma x))
     reading-next =
         let z = zoneAt (x -ℤ centre) sigma in
         let bounds = accepted l (r .rules) .2 in

@@ -10,7 +10,7 @@ use Rattle.rules.specs.declared.Checked.the-variants.{Accepted}
 use Rattle.rules.specs.Bounds.{zoneCount, maxNumber}
 use Rattle.rules.specs.Refusal.{badState, badZone, badCount}
 use Rattle.rules.specs.Check.{checkOf, activeRules}
-use Rattle.window.specs.State.{emptyState, validState, stateMask, moveOf}
+use Rattle.window.specs.State.{emptyState, validState, moveOf}
 use Rattle.window.specs.declared.Move.{Move}
 use Rattle.window.specs.declared.Move.the-variants.{Quiet, Signal}
 use Rattle.monitor.specs.declared.Monitor.{Monitor}
@@ -27,9 +27,9 @@ freshMonitor = monitorAt emptyState 0
 
 -- quiet with the next state, or signal with the mask of all rules that hold and a fresh monitor; either with the count of points since the
 -- last reset, this one among them
-abbrev pub stepAnswer : Move → ℕ → ℕ → Step
-stepAnswer (Quiet t) mask count = Step.Quiet count (monitorAt t count)
-stepAnswer Signal mask count = Step.Signal count mask freshMonitor
+abbrev pub stepAnswer : Move → ℕ → Step
+stepAnswer (Quiet t) count = Step.Quiet count (monitorAt t count)
+stepAnswer (Signal mask) count = Step.Signal count mask freshMonitor
 
 -- by whether the zone, the state and the count can be given: 6, then 5, then 7, else the answer
 abbrev pub stepOrder : Bool → Bool → Bool → Step → Step
@@ -40,7 +40,7 @@ stepOrder zone state count answer =
 unfoldable pub acceptedStep : List Rule → Monitor → ℕ → Step
 acceptedStep rs m z =
     stepOrder (ltb z zoneCount) (validState (m .count) rs (m .state)) (ltb (m .count) maxNumber)
-    (stepAnswer (moveOf rs (m .state) z) (stateMask rs (m .state) z) (m .count + 1))
+    (stepAnswer (moveOf rs (m .state) z) (m .count + 1))
 
 -- 2, 3 and 4 come first
 abbrev pub stepBy : Checked → List Rule → Monitor → ℕ → Step

@@ -1,13 +1,9 @@
 -- What a step with accepted rules answers, case by case.
-use mathlib.Core.Path.{_≡_, _∙_}
-use mathlib.Core.Bool.{true, false, cond}
-use mathlib.Core.Logic.{⊎-elim}
+use mathlib.Core.Path.{_≡_, refl, _∙_}
+use mathlib.Core.Bool.{true, false}
 use mathlib.Core.List.{List}
 use Prim.Native.Nat.{ℕ, _+_, _≤_, _<_}
-use native.Mathlib.Nat.{eq-zero-or-pos}
-use native.Mathlib.Omega.{arith}
-use lib.Dec.{eqb}
-use borrow.Author.Tests.{lt-ltb, le-ltb, ne-eqb}
+use borrow.Author.Tests.{lt-ltb, le-ltb}
 use Rattle.rules.specs.declared.Rule.{Rule}
 use Rattle.rules.specs.declared.RuleList.{RuleList}
 use Rattle.rules.specs.declared.Checked.the-variants.{Accepted}
@@ -15,12 +11,13 @@ use Rattle.rules.specs.Bounds.{zoneCount, maxNumber}
 use Rattle.rules.specs.Check.{activeRules, checkOf}
 use Rattle.rules.specs.Refusal.{badState, badZone, badCount}
 use Rattle.monitor.specs.declared.Monitor.{Monitor}
+use Rattle.window.specs.declared.Move.{Move}
 use Rattle.window.specs.declared.Move.the-variants.{Quiet, Signal}
 use Rattle.monitor.specs.declared.Step.{Step}
 use Rattle.monitor.specs.declared.Step.the-variants.{Refused}
 use Rattle.window.specs.State.{validState, stateMask, nextState, moveOf}
 use Rattle.monitor.specs.Step.{monitorAt, freshMonitor, stepAnswer, acceptedStep, stepOf}
-use Rattle.monitor.specs.Take.{takenOf}
+use Rattle.monitor.specs.Take.{takenBy, takenOf, stepTaken}
 use Rattle.monitor.specs.declared.Taken.{Taken}
 use Rattle.window.specs.MoveLaws.{move-quiet, move-signal}
 
@@ -46,7 +43,7 @@ module _ (rs : List Rule) (m : Monitor) (z : ℕ) (zone : z < zoneCount) where
     step-bad-count h = rw (lt-ltb z zoneCount zone, valid, le-ltb (m .count) maxNumber h)
 
     -- an accepted step is its move, with the count
-    pub step-move : m .count < maxNumber → acceptedStep rs m z ≡ stepAnswer (moveOf rs (m .state) z) (stateMask rs (m .state) z) (m .count + 1)
+    pub step-move : m .count < maxNumber → acceptedStep rs m z ≡ stepAnswer (moveOf rs (m .state) z) (m .count + 1)
     unfolding acceptedStep
     step-move h = rw (lt-ltb z zoneCount zone, valid, lt-ltb (m .count) maxNumber h)
 
@@ -59,23 +56,25 @@ module _ (rs : List Rule) (m : Monitor) (z : ℕ) (zone : z < zoneCount) where
 -- ---- a point where nothing can be refused
 
 module _ (rs : List Rule) (m : Monitor) (z : ℕ) where
-  pub take-signal : (stateMask rs (m .state) z ≡ 0 → ⊥) → takenOf rs m z ≡ record { mask = stateMask rs (m .state) z; next = freshMonitor }
+  -- by its move
+  pub taken-move : (t : Move) → moveOf rs (m .state) z ≡ t → takenOf rs m z ≡ takenBy t (m .count + 1)
   unfolding takenOf
-  take-signal e = rw (ne-eqb (stateMask rs (m .state) z) 0 e)
+  taken-move t e = rw e
 
-  pub take-quiet : stateMask rs (m .state) z ≡ 0 → takenOf rs m z ≡ record { mask = 0; next = monitorAt (nextState rs (m .state) z) (m .count + 1) }
+  pub take-signal : (stateMask rs (m .state) z ≡ 0 → ⊥) → takenOf rs m z ≡ Taken.Signal (stateMask rs (m .state) z)
   unfolding takenOf
-  take-quiet e = rw e
+  take-signal e = rw (move-signal rs (m .state) z e)
 
--- the step that a taken point is, with the count that it has
-abbrev pub stepTaken : ℕ → Taken → Step
-stepTaken count t = cond (eqb (t .mask) 0) (Step.Quiet count (t .next)) (Step.Signal count (t .mask) (t .next))
+  pub take-quiet : stateMask rs (m .state) z ≡ 0 → takenOf rs m z ≡ Taken.Quiet (monitorAt (nextState rs (m .state) z) (m .count + 1))
+  unfolding takenOf
+  take-quiet e = rw (move-quiet rs (m .state) z e)
 
--- where nothing is refused, a step is what taking the point says
-pub step-take : (rs : List Rule) (m : Monitor) (z : ℕ) → z < zoneCount → validState (m .count) rs (m .state) ≡ true → m .count < maxNumber → acceptedStep rs m z ≡ stepTaken (m .count + 1) (takenOf rs m z)
-step-take rs m z zone valid h =
-    ⊎-elim
-    (λ (n : stateMask rs (m .state) z ≡ 0). rw (step-quiet rs m z zone valid h n, take-quiet rs m z n))
-    (λ (n : 0 < stateMask rs (m .state) z).
-    rw (step-signal rs m z zone valid h (λ y. omega arith), take-signal rs m z (λ y. omega arith), ne-eqb (stateMask rs (m .state) z) 0 (λ y. omega arith)))
-    (eq-zero-or-pos (stateMask rs (m .state) z))
+  -- where nothing is refused, a step is what taking the point says
+  pub step-take : z < zoneCount → validState (m .count) rs (m .state) ≡ true → m .count < maxNumber
+      → acceptedStep rs m z ≡ stepTaken (m .count + 1) (takenOf rs m z)
+  unfolding takenOf
+  step-take zone valid h = step-move rs m z zone valid h ∙ go (moveOf rs (m .state) z)
+    where
+      go : (t : Move) → stepAnswer t (m .count + 1) ≡ stepTaken (m .count + 1) (takenBy t (m .count + 1))
+      go (Quiet t) = refl
+      go (Signal mask) = refl

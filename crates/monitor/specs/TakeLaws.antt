@@ -8,7 +8,6 @@ use Prim.Native.Nat.{ℕ, _+_, _≤_, _<_}
 use native.Mathlib.Nat.{eq-zero-or-pos}
 use native.Mathlib.Omega.{arith}
 use lib.ListN.{length}
-use borrow.Author.Tests.{ne-eqb}
 use Rattle.rules.specs.declared.Rule.{Rule}
 use Rattle.rules.specs.declared.RuleList.{RuleList}
 use Rattle.rules.specs.declared.Checked.the-variants.{Accepted}
@@ -19,7 +18,7 @@ use Rattle.rules.specs.InBounds.{AllInBounds}
 use Rattle.monitor.specs.declared.Monitor.{Monitor}
 use Rattle.window.specs.State.{validState, stateMask, nextState}
 use Rattle.monitor.specs.StepLaws.{rules-accepted, step-signal, step-quiet, take-signal, take-quiet}
-use Rattle.monitor.specs.Take.{takenOf, takenAnswers}
+use Rattle.monitor.specs.Take.{takenOf, nextOf, takenAnswers}
 use Rattle.monitor.specs.Calls.{monitorAnswers}
 use Rattle.runlength.specs.Sequence.{AllBelow}
 use Rattle.window.specs.GivenLaws.{fresh-valid, valid-next}
@@ -28,7 +27,7 @@ use Rattle.window.specs.GivenLaws.{fresh-valid, valid-next}
 
 -- a point that is taken leads from a monitor that can be given to one that can be given
 pub taken-valid : (rs : List Rule) → AllInBounds rs → (m : Monitor) (z : ℕ) → z < zoneCount → validState (m .count) rs (m .state) ≡ true
-    → validState (takenOf rs m z .next .count) rs (takenOf rs m z .next .state) ≡ true
+    → validState (nextOf (takenOf rs m z) .count) rs (nextOf (takenOf rs m z) .state) ≡ true
 taken-valid rs p m z zone v =
     ⊎-elim
     (λ (n : stateMask rs (m .state) z ≡ 0). rw (take-quiet rs m z n) (valid-next rs p (m .count) (m .state) z zone v n))
@@ -59,7 +58,6 @@ module _ (l : RuleList) (a : checkOf l ≡ Accepted) where
         rules-accepted l a m z,
         step-signal rs m z (p .0) v (omega arith) (λ y. omega arith),
         take-signal rs m z (λ y. omega arith),
-        ne-eqb (stateMask rs (m .state) z) 0 (λ y. omega arith),
         taken-answers (record { state = 0; count = 0 }) (fresh-valid rs bounds) zs (p .1) (omega arith),
       ))
       (eq-zero-or-pos (stateMask rs (m .state) z))

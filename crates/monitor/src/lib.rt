@@ -4,6 +4,7 @@ use rules::MAX_NUMBER;
 use rules::Refusal;
 use rules::RuleList;
 use rules::ZONES;
+use window::Move;
 ghost use mathlib.Core.Path.{_≡_};
 ghost use mathlib.Core.Bool.{true};
 ghost use Prim.Native.Nat.{_≤_, _<_};
@@ -48,10 +49,11 @@ pub enum Step {
     },
 }
 
-// What a point does where nothing is refused: the mask of all rules that hold, 0 for quiet, and the monitor for the next point.
-pub struct Taken {
-    pub mask: u32,
-    pub next: Monitor,
+// What a point does where nothing is refused: quiet, with the monitor for the next point; or signal, with the mask of all rules that hold, and a
+// fresh monitor comes next.
+pub enum Taken {
+    Quiet(Monitor),
+    Signal(u32),
 }
 
 impl Monitor {
@@ -77,20 +79,10 @@ impl Monitor {
         requires { ⌜ validState (self .count) (activeRules list) (self .state) ≡ true ⌝ }
         ensures { λ r. ⌜ r ≡ takenOf (activeRules list) self zone ⌝ }
     {
-        let points = self.count;
-        let moved = window::moved(list, self.state, zone);
-        let mask = moved.mask;
-        if mask != 0 {
-            return Taken {
-                mask,
-                next: Monitor { state: 0, count: 0 },
-            };
-        }
-        let state = moved.next;
-        let count = points + 1;
-        Taken {
-            mask,
-            next: Monitor { state, count },
+        let count = self.count + 1;
+        match window::move_of(list, self.state, zone) {
+            Move::Quiet(state) => Taken::Quiet(Monitor { state, count }),
+            Move::Signal(mask) => Taken::Signal(mask),
         }
     }
 
@@ -119,13 +111,14 @@ impl Monitor {
             });
         }
         let count = points + 1;
-        let taken = self.take(list, zone);
-        let mask = taken.mask;
-        let next = taken.next;
-        if mask != 0 {
-            return Step::Signal { count, mask, next };
+        match self.take(list, zone) {
+            Taken::Quiet(next) => Step::Quiet { count, next },
+            Taken::Signal(mask) => Step::Signal {
+                count,
+                mask,
+                next: Monitor::fresh(),
+            },
         }
-        Step::Quiet { count, next }
     }
 
     // One point: refused by 2, 3, 4; 6; 5; 7, in this order; else quiet or signal.

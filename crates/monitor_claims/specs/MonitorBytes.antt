@@ -162,8 +162,7 @@ monitor-read {s} {c} {d} {rs} {ps} t o =
     let e = read-contents t in
     let bench : OnBench (pointsSaid (pointRows ps)) = rw (said-rows ps) o in
     let at = pointsFrom (c, (d, tt)) (ruleRows rs) in
-    let given = bench-read s all e bench in
-    (
+    let given = bench-read s all e bench in (
       at,
       given ∙ ap (λ (l : List Rule). readMonitor c d l at) (rules-back rs),
       ap (λ (m : MonitorText). pointsAt s (m .points)) given ∙ points-again s all e ∙ said-rows ps,
@@ -186,8 +185,7 @@ pub monitor-text-once : {s : List ℕ} {c c′ : ℤ} {d d′ : ℕ} {rs rs′ :
     → MonitorTextIs s c′ d′ rs′ ps′
     → (c ≡ c′) × (d ≡ d′) × (rs ≡ rs′) × (ps ≡ ps′)
 monitor-text-once {s} {c} {c′} {d} {d′} {rs} {rs′} {ps} {ps′} t t′ =
-    let e = contents-once clear-monitor (t .text) (t′ .text) in
-    (
+    let e = contents-once clear-monitor (t .text) (t′ .text) in (
       ap (λ (a : Contents monitorGrammar). a .0 .0) e,
       ap (λ (a : Contents monitorGrammar). a .0 .1 .0) e,
       sym (rules-back rs) ∙ ap rulesIn e ∙ rules-back rs′,

@@ -1,11 +1,10 @@
 -- TO BELIEVE: the monitor program's lines. Definitions.
 use Prim.Native.Nat.{ℕ, _+_}
-use mathlib.Core.Bool.{cond}
 use mathlib.Core.List.{List, [], _∷_, _++_}
-use lib.Dec.{eqb}
 use lib.ListN.{length}
 use Rattle.decimal.specs.Word.{newline}
 use Rattle.monitor_report.specs.declared.lines.PointLine.{PointLine}
+use Rattle.monitor_report.specs.declared.lines.PointLine.the-variants.{Quiet, Signal}
 use Rattle.write.specs.Field.{field, shortField}
 
 -- `quiet`
@@ -28,9 +27,10 @@ quietLine node n period = quietWord ++ field node ++ field n ++ field period ++ 
 unfoldable pub signalLine : ℕ → ℕ → ℕ → ℕ → List ℕ
 signalLine node n mask period = signalWord ++ field node ++ field n ++ field mask ++ field period ++ newline
 
--- the line of a point: quiet where no rule holds
+-- the line of a point
 unfoldable pub pointBytes : PointLine → List ℕ
-pointBytes p = cond (eqb (p .mask) 0) (quietLine (p .node) (p .count) (p .period)) (signalLine (p .node) (p .count) (p .mask) (p .period))
+pointBytes (Quiet node n period) = quietLine node n period
+pointBytes (Signal node n mask period) = signalLine node n mask period
 
 -- total,node,points,signals
 unfoldable pub totalLine : ℕ → ℕ → ℕ → List ℕ

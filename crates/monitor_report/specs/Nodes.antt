@@ -9,7 +9,9 @@ use Rattle.rules.specs.declared.Rule.{Rule}
 use Rattle.monitor.specs.declared.Monitor.{Monitor}
 use Rattle.monitor.specs.Step.{freshMonitor}
 use Rattle.window.specs.ReferenceChart.{Answer}
-use Rattle.monitor.specs.Take.{takenOf, takenAnswers}
+use Rattle.monitor.specs.Take.{takenOf, nextOf, takenAnswers}
+use Rattle.monitor.specs.declared.Taken.{Taken}
+use Rattle.monitor_report.specs.declared.lines.PointLine.{PointLine}
 use Rattle.monitor_report.specs.declared.nodes.Node.{Node}
 use Rattle.monitor_report.specs.declared.nodes.NodePoint.{NodePoint}
 use Rattle.monitor_report.specs.Points.{signalsIn, NodeTotal}
@@ -18,16 +20,21 @@ use Rattle.monitor.specs.Zones.{zonesOf}
 abbrev pub freshNode : Node
 freshNode = record { monitor = freshMonitor; points = 0; signals = 0 }
 
--- what a point does to its node
-unfoldable pub nodeTaken : List Rule → Node → ℕ → NodePoint
-nodeTaken rs n z =
-    let t = takenOf rs (n .monitor) z in
+-- what a point that is taken says of node number k, and the node behind it
+abbrev pub nodePoint : ℕ → Node → Taken → NodePoint
+nodePoint k n (Taken.Quiet m) =
     record {
-      count = n .monitor .count + 1;
-      mask = t .mask;
-      period = n .points + 1;
-      next = record { monitor = t .next; points = n .points + 1; signals = n .signals + cond (eqb (t .mask) 0) 0 1 };
+      line = PointLine.Quiet k (n .monitor .count + 1) (n .points + 1);
+      next = record { monitor = m; points = n .points + 1; signals = n .signals };
     }
+nodePoint k n (Taken.Signal mask) =
+    record {
+      line = PointLine.Signal k (n .monitor .count + 1) mask (n .points + 1);
+      next = record { monitor = freshMonitor; points = n .points + 1; signals = n .signals + 1 };
+    }
+
+unfoldable pub nodeTaken : List Rule → ℕ → Node → ℕ → NodePoint
+nodeTaken rs k n z = nodePoint k n (takenOf rs (n .monitor) z)
 
 -- the chart of a node whose points are taken one by one
 abbrev pub takenChart : List Rule → ℤ → ℕ → List ℤ → List Answer
@@ -36,7 +43,7 @@ takenChart rs centre sigma xs = takenAnswers rs freshMonitor (zonesOf centre sig
 -- the monitor behind zones that are taken one by one
 unfoldable pub takenAfter : List Rule → Monitor → List ℕ → Monitor
 takenAfter rs m [] = m
-takenAfter rs m (z ∷ zs) = takenAfter rs (takenOf rs m z .next) zs
+takenAfter rs m (z ∷ zs) = takenAfter rs (nextOf (takenOf rs m z)) zs
 
 -- and the node
 unfoldable pub nodeAfter : List Rule → List ℕ → Node

@@ -1,7 +1,7 @@
 -- Laws of a node: one point more; its monitor can be given; its counts stay small; its total.
 use Prim.Native.Nat.{ℕ, _+_, _≤_}
-use mathlib.Core.Path.{_≡_, refl, ap, _∙_}
-use mathlib.Core.Bool.{Bool, true, false, cond}
+use mathlib.Core.Path.{_≡_, refl, sym, ap, _∙_}
+use mathlib.Core.Bool.{true, cond}
 use mathlib.Core.List.{List, [], _∷_, _++_}
 use native.Mathlib.Omega.{arith}
 use lib.Dec.{eqb}
@@ -12,69 +12,73 @@ use Rattle.rules.specs.Bounds.{zoneCount}
 use Rattle.rules.specs.InBounds.{AllInBounds}
 use Rattle.runlength.specs.Sequence.{AllBelow}
 use Rattle.monitor.specs.declared.Monitor.{Monitor}
-use Rattle.window.specs.State.{validState, stateMask, nextState}
-use Rattle.monitor.specs.Step.{monitorAt, freshMonitor}
+use Rattle.window.specs.State.{validState, moveOf}
+use Rattle.monitor.specs.Step.{freshMonitor}
 use Rattle.window.specs.ReferenceChart.{Answer, quiet, signal}
-use Rattle.monitor.specs.Take.{takenOf, maskAnswer, takenAnswers}
+use Rattle.monitor.specs.Take.{takenBy, takenOf, nextOf, answerOf, takenAnswers}
+use Rattle.monitor.specs.declared.Taken.{Taken}
+use Rattle.window.specs.declared.Move.{Move}
+use Rattle.monitor_report.specs.declared.nodes.Node.{Node}
+use Rattle.monitor_report.specs.MonitorLines.{pointBytes}
 use Rattle.monitor.specs.TakeLaws.{taken-valid}
 use Rattle.window.specs.GivenLaws.{fresh-valid}
-use Rattle.monitor_report.specs.Points.{oneSignal, signalsIn, nodeTotal}
-use Rattle.monitor_report.specs.Nodes.{nodeTaken, takenAfter, nodeAfter, totalOf}
+use Rattle.monitor_report.specs.Points.{oneSignal, signalsIn, nodeTotal, lineOf}
+use Rattle.monitor_report.specs.Nodes.{nodePoint, nodeTaken, takenAfter, nodeAfter, totalOf}
 
 -- ---- one point more
 
-pub after-more : (rs : List Rule) (m : Monitor) (zs : List ℕ) (z : ℕ) → takenAfter rs m (zs ++ (z ∷ [])) ≡ takenOf rs (takenAfter rs m zs) z .next
+pub after-more : (rs : List Rule) (m : Monitor) (zs : List ℕ) (z : ℕ) → takenAfter rs m (zs ++ (z ∷ [])) ≡ nextOf (takenOf rs (takenAfter rs m zs) z)
 unfolding takenAfter
 after-more rs m [] z = refl
-after-more rs m (y ∷ zs) z = after-more rs (takenOf rs m y .next) zs z
+after-more rs m (y ∷ zs) z = after-more rs (nextOf (takenOf rs m y)) zs z
 
 -- the answer to the point behind those in zs
 abbrev pub answerAfter : List Rule → Monitor → List ℕ → ℕ → Answer
-answerAfter rs m zs z = maskAnswer (takenOf rs (takenAfter rs m zs) z .mask) (takenAfter rs m zs .count + 1)
+answerAfter rs m zs z = answerOf (takenAfter rs m zs .count + 1) (takenOf rs (takenAfter rs m zs) z)
 
 pub answers-more : (rs : List Rule) (m : Monitor) (zs : List ℕ) (z : ℕ)
     → takenAnswers rs m (zs ++ (z ∷ [])) ≡ takenAnswers rs m zs ++ (answerAfter rs m zs z ∷ [])
 unfolding takenAfter takenAnswers
 answers-more rs m [] z = refl
 answers-more rs m (y ∷ zs) z =
-    ap (λ (t : List Answer). maskAnswer (takenOf rs m y .mask) (m .count + 1) ∷ t) (answers-more rs (takenOf rs m y .next) zs z)
+    ap (λ (t : List Answer). answerOf (m .count + 1) (takenOf rs m y) ∷ t) (answers-more rs (nextOf (takenOf rs m y)) zs z)
 
 pub answers-length : (rs : List Rule) (m : Monitor) (zs : List ℕ) → length (takenAnswers rs m zs) ≡ length zs
 unfolding takenAnswers
 answers-length rs m [] = refl
-answers-length rs m (z ∷ zs) = omega (arith, answers-length rs (takenOf rs m z .next) zs)
+answers-length rs m (z ∷ zs) = omega (arith, answers-length rs (nextOf (takenOf rs m z)) zs)
 
 signals-more : (answers : List Answer) (a : Answer) → signalsIn (answers ++ (a ∷ [])) ≡ signalsIn answers + oneSignal a
 unfolding signalsIn
 signals-more [] a = omega arith
 signals-more (x ∷ rest) a = omega (arith, signals-more rest a)
 
--- a mask says whether its answer is a signal
-mask-signal : (mask count : ℕ) → oneSignal (maskAnswer mask count) ≡ cond (eqb mask 0) 0 1
-mask-signal mask count = go (eqb mask 0)
-  where
-    go : (b : Bool) → oneSignal (cond b (quiet count) (signal count mask)) ≡ cond b 0 1
-    go true = refl
-    go false = refl
+-- the node behind a point that is taken
+node-next : (k : ℕ) (n : Node) (count : ℕ) (t : Taken)
+    → nodePoint k n t .next ≡ record { monitor = nextOf t; points = n .points + 1; signals = n .signals + oneSignal (answerOf count t) }
+node-next k n count (Taken.Quiet m) = let e : n .signals + 0 ≡ n .signals = omega arith in rw e
+node-next k n count (Taken.Signal mask) = refl
 
-pub signal-le : (mask : ℕ) → cond (eqb mask 0) 0 1 ≤ 1
-signal-le mask = go (eqb mask 0)
-  where
-    go : (b : Bool) → cond b 0 1 ≤ 1
-    go true = omega arith
-    go false = omega arith
+pub node-taken : (rs : List Rule) (k : ℕ) (n : Node) (z : ℕ) {t : Taken} → t ≡ takenOf rs (n .monitor) z → nodePoint k n t ≡ nodeTaken rs k n z
+unfolding nodeTaken
+node-taken rs k n z e = ap (nodePoint k n) e
 
 -- the node behind one point more is what the point does to it
-pub node-more : (rs : List Rule) (zs : List ℕ) (z : ℕ) → nodeAfter rs (zs ++ (z ∷ [])) ≡ nodeTaken rs (nodeAfter rs zs) z .next
+pub node-more : (rs : List Rule) (k : ℕ) (zs : List ℕ) (z : ℕ) → nodeAfter rs (zs ++ (z ∷ [])) ≡ nodeTaken rs k (nodeAfter rs zs) z .next
 unfolding nodeAfter nodeTaken
-node-more rs zs z =
+node-more rs k zs z =
     let m = takenAfter rs freshMonitor zs in
     let points : length (zs ++ (z ∷ [])) ≡ length zs + 1 = length-append zs (z ∷ []) in
     let before = takenAnswers rs freshMonitor zs in
-    let signals : signalsIn (takenAnswers rs freshMonitor (zs ++ (z ∷ []))) ≡ signalsIn before + cond (eqb (takenOf rs m z .mask) 0) 0 1 =
-    ap signalsIn (answers-more rs freshMonitor zs z) ∙ signals-more before (answerAfter rs freshMonitor zs z)
-    ∙ ap (λ n. signalsIn before + n) (mask-signal (takenOf rs m z .mask) (m .count + 1)) in
-    rw (after-more rs freshMonitor zs z, points, signals)
+    let signals : signalsIn (takenAnswers rs freshMonitor (zs ++ (z ∷ []))) ≡ signalsIn before + oneSignal (answerAfter rs freshMonitor zs z) =
+    ap signalsIn (answers-more rs freshMonitor zs z) ∙ signals-more before (answerAfter rs freshMonitor zs z) in
+    rw (after-more rs freshMonitor zs z, points, signals) (sym (node-next k _ (m .count + 1) (takenOf rs m z)))
+
+-- a point's line is that of its answer
+pub node-line : (k : ℕ) (n : Node) (t : Taken) → pointBytes (nodePoint k n t .line) ≡ lineOf k (answerOf (n .monitor .count + 1) t) (n .points + 1)
+unfolding pointBytes
+node-line k n (Taken.Quiet m) = refl
+node-line k n (Taken.Signal mask) = refl
 
 -- ---- a node's monitor can be given, and its counts are at most the number of its points
 
@@ -82,20 +86,20 @@ after-valid : (rs : List Rule) → AllInBounds rs → (m : Monitor) → validSta
     → validState (takenAfter rs m zs .count) rs (takenAfter rs m zs .state) ≡ true
 unfolding takenAfter AllBelow
 after-valid rs p m v [] b = v
-after-valid rs p m v (z ∷ zs) b = after-valid rs p (takenOf rs m z .next) (taken-valid rs p m z (b .0) v) zs (b .1)
+after-valid rs p m v (z ∷ zs) b = after-valid rs p (nextOf (takenOf rs m z)) (taken-valid rs p m z (b .0) v) zs (b .1)
 
-count-le : (rs : List Rule) (m : Monitor) (z : ℕ) → takenOf rs m z .next .count ≤ m .count + 1
+count-le : (rs : List Rule) (m : Monitor) (z : ℕ) → nextOf (takenOf rs m z) .count ≤ m .count + 1
 unfolding takenOf
-count-le rs m z = go (eqb (stateMask rs (m .state) z) 0)
+count-le rs m z = go (moveOf rs (m .state) z)
   where
-    go : (b : Bool) → cond b (monitorAt (nextState rs (m .state) z) (m .count + 1)) freshMonitor .count ≤ m .count + 1
-    go true = omega arith
-    go false = omega arith
+    go : (t : Move) → nextOf (takenBy t (m .count + 1)) .count ≤ m .count + 1
+    go (Move.Quiet s) = omega arith
+    go (Move.Signal mask) = omega arith
 
 after-count : (rs : List Rule) (m : Monitor) (zs : List ℕ) → takenAfter rs m zs .count ≤ m .count + length zs
 unfolding takenAfter
 after-count rs m [] = omega arith
-after-count rs m (z ∷ zs) = omega (arith, after-count rs (takenOf rs m z .next) zs, count-le rs m z)
+after-count rs m (z ∷ zs) = omega (arith, after-count rs (nextOf (takenOf rs m z)) zs, count-le rs m z)
 
 one-signal-le : (a : Answer) → oneSignal a ≤ 1
 one-signal-le (Answer.refused n) = omega arith

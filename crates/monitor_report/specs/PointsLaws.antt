@@ -1,11 +1,10 @@
 -- Laws of the points' lines: one point more, and the turns of the loop over the point lines.
 use Prim.Native.Nat.{ℕ, zero, suc, _+_, _≤_, _<_}
 use mathlib.Core.Path.{_≡_, refl, sym, ap, _∙_}
-use mathlib.Core.Bool.{Bool, true, false, cond}
+use mathlib.Core.Bool.{true}
 use mathlib.Core.List.{List, [], _∷_, _++_, append-assoc, append-nil}
 use native.Mathlib.Decide.{ℕ-discrete}
 use native.Mathlib.Omega.{arith}
-use lib.Dec.{eqb}
 use lib.ListN.{length, getD, set, replicate, length-append, length-set}
 use lib.Seq.{getD-set-same, getD-set-other}
 use lib.IntN.{ℤ, _-ℤ_}
@@ -15,8 +14,8 @@ use Rattle.rules.specs.InBounds.{AllInBounds}
 use Rattle.monitor.specs.Zone.{zoneAt}
 use Rattle.window.specs.State.{validState}
 use Rattle.monitor.specs.Step.{freshMonitor}
-use Rattle.window.specs.ReferenceChart.{Answer, quiet, signal}
-use Rattle.monitor.specs.Take.{maskAnswer, takenAnswers}
+use Rattle.window.specs.ReferenceChart.{Answer}
+use Rattle.monitor.specs.Take.{takenOf, takenAnswers}
 use Rattle.grammar.specs.Form.{line}
 use Rattle.grammar.specs.Reading.{found, other, seen}
 use Rattle.grammar.specs.Size.{maxText}
@@ -27,14 +26,14 @@ use Rattle.monitor_text.specs.MonitorGrammar.{pointLine}
 use Rattle.monitor_text.specs.MonitorText.{pointsAt}
 use Rattle.monitor_text.specs.PointTurnLaws.{pointsBy, one-point, no-points, seen-ahead}
 use Rattle.monitor_text.specs.ReadingsLaws.{readings-append, reading-own, reading-other, readings-few}
-use Rattle.monitor_report.specs.MonitorLines.{quietLine, signalLine, pointBytes, pointRoom}
+use Rattle.monitor_report.specs.MonitorLines.{pointBytes, pointRoom}
 use Rattle.monitor_report.specs.declared.nodes.Node.{Node}
 use Rattle.monitor_report.specs.declared.nodes.NodePoint.{NodePoint}
 use Rattle.monitor_report.specs.Points.{NodeAnswer, nodeAnswer, lastAnswer, pointAnswer, benchAnswers, signalsIn, benchTotals}
 use Rattle.monitor.specs.Zones.{zonesOf}
 use Rattle.monitor_report.specs.Points.{lineOf, answerLines, totalLines, benchBytes}
 use Rattle.monitor_report.specs.Nodes.{freshNode, nodeTaken, takenChart, takenAfter, nodeAfter, totalOf, totalsOf}
-use Rattle.monitor_report.specs.NodesLaws.{answerAfter, answers-more, node-more, node-valid, node-small, node-total}
+use Rattle.monitor_report.specs.NodesLaws.{answerAfter, answers-more, node-more, node-line, node-valid, node-small, node-total}
 use Rattle.monitor.specs.ZonesLaws.{zones-append, zones-exist, zones-length}
 use Rattle.monitor_report.specs.BenchWritten.{NodesAre, BenchWritten}
 
@@ -65,18 +64,6 @@ lines-append (x ∷ xs) ys =
     let one = lineOf (x .node) (x .answer) (x .period) in
     ap (λ (t : List ℕ). one ++ t) (lines-append xs ys) ∙ sym (append-assoc one (answerLines xs) (answerLines ys))
 
--- the line of a mask and a count is that of the answer which they say
-mask-line : (node mask count period : ℕ)
-    → pointBytes (record { node = node; count = count; mask = mask; period = period }) ≡ lineOf node (maskAnswer mask count) period
-unfolding pointBytes
-mask-line node mask count period = go (eqb mask 0)
-  where
-    go : (b : Bool)
-        → cond b (quietLine node count period) (signalLine node count mask period)
-        ≡ lineOf node (cond b (quiet count) (signal count mask)) period
-    go true = refl
-    go false = refl
-
 module _ (rs : List Rule) (centre : ℤ) (sigma : ℕ) (done : List NodeReading) (node : ℕ) (x : ℤ) where
   -- the zones of a point's node, with it
   zones-own : zonesOf centre sigma (readingsOf node (done ++ (nodeReading node x ∷ [])))
@@ -106,19 +93,19 @@ module _ (rs : List Rule) (centre : ℤ) (sigma : ℕ) (done : List NodeReading)
 
   -- the nodes behind the point: its own is moved on, the others stay
   nodes-more : (nodes : List Node) → NodesAre rs centre sigma done nodes → node < length nodes
-      → (next : Node) → next ≡ nodeTaken rs (nodeAfter rs (zonesOf centre sigma (readingsOf node done))) (zoneAt (x -ℤ centre) sigma) .next
+      → (next : Node) → next ≡ nodeTaken rs node (nodeAfter rs (zonesOf centre sigma (readingsOf node done))) (zoneAt (x -ℤ centre) sigma) .next
       → NodesAre rs centre sigma (done ++ (nodeReading node x ∷ [])) (set nodes node next)
   nodes-more nodes are slot next e k lt = go (ℕ-discrete k node)
     where
       go : Dec (k ≡ node) → getD (set nodes node next) k freshNode ≡ nodeAfter rs (zonesOf centre sigma (readingsOf k (done ++ (nodeReading node x ∷ []))))
-      go (yes q) = rw (q, getD-set-same nodes node next freshNode slot, zones-own, e) (sym (node-more rs _ _))
+      go (yes q) = rw (q, getD-set-same nodes node next freshNode slot, zones-own, e) (sym (node-more rs node _ _))
       go (no n) =
           let same : readingsOf k (done ++ (nodeReading node x ∷ [])) ≡ readingsOf k done =
           rw (readings-append k done (nodeReading node x ∷ []), reading-other k node x (λ r. n (sym r))) (append-nil (readingsOf k done)) in
           rw same (getD-set-other nodes node k next freshNode n ∙ are k lt)
 
-taken-same : (rs : List Rule) {n n′ : Node} {z z′ : ℕ} → n ≡ n′ → z ≡ z′ → nodeTaken rs n z ≡ nodeTaken rs n′ z′
-taken-same rs e f = rw (e, f)
+taken-same : (rs : List Rule) (k : ℕ) {n n′ : Node} {z z′ : ℕ} → n ≡ n′ → z ≡ z′ → nodeTaken rs k n z ≡ nodeTaken rs k n′ z′
+taken-same rs k e f = rw (e, f)
 
 -- fresh nodes
 pub slots-fresh : (m : ℕ) (n : Node) → n ≡ freshNode → (k : ℕ) → k < nodeCount → getD (replicate m n) k freshNode ≡ freshNode
@@ -178,9 +165,9 @@ module _ {s : List ℕ} {at : ℕ} {rs : List Rule} {centre : ℤ} {sigma : ℕ}
         ((omega (arith, small), omega (arith, small), omega (arith, small)), node-valid rs zs bounds (zones-exist centre sigma xs))
 
     pub written-more : (node : ℕ) (x : ℤ) (next : ℕ) → seen (line pointLine) s i ≡ found (node, (x, tt)) next
-        → (z : ℕ) → z ≡ zoneAt (x -ℤ centre) sigma → (p : NodePoint) → p ≡ nodeTaken rs (getD nodes node freshNode) z
+        → (z : ℕ) → z ≡ zoneAt (x -ℤ centre) sigma → (p : NodePoint) → p ≡ nodeTaken rs node (getD nodes node freshNode) z
         → {after′ : List ℕ} (r : ℕ)
-        → Wrote after end after′ r (pointBytes (record { node = node; count = p .count; mask = p .mask; period = p .period }))
+        → Wrote after end after′ r (pointBytes (p .line))
         → r ≤ end + pointRoom
         → BenchWritten s at rs centre sigma before after′ (set nodes node (p .next)) next r
     unfolding OnBench nodeTaken nodeAfter
@@ -191,10 +178,10 @@ module _ {s : List ℕ} {at : ℕ} {rs : List Rule} {centre : ℤ} {sigma : ℕ}
         let one = nodeReading node x in
         let zs = zonesOf centre sigma (readingsOf node (u .done)) in
         let count : length (u .done ++ (one ∷ [])) ≡ length (u .done) + 1 = length-append (u .done) (one ∷ []) in
-        let own : p ≡ nodeTaken rs (nodeAfter rs zs) (zoneAt (x -ℤ centre) sigma) = ep ∙ taken-same rs (u .nodes-are node below) ez in
+        let own : p ≡ nodeTaken rs node (nodeAfter rs zs) (zoneAt (x -ℤ centre) sigma) = ep ∙ taken-same rs node (u .nodes-are node below) ez in
         let slot : node < length nodes = omega (arith, u .slots) in
-        let line : pointBytes (record { node = node; count = p .count; mask = p .mask; period = p .period })
-        ≡ lineOf node (answerAfter rs freshMonitor zs (zoneAt (x -ℤ centre) sigma)) (length zs + 1) = rw own (mask-line node _ _ _) in
+        let line : pointBytes (p .line) ≡ lineOf node (answerAfter rs freshMonitor zs (zoneAt (x -ℤ centre) sigma)) (length zs + 1) =
+        rw own (node-line node (nodeAfter rs zs) (takenOf rs (takenAfter rs freshMonitor zs) (zoneAt (x -ℤ centre) sigma))) in
         record {
           fuel = o .0;
           enough = o .1;

@@ -13,12 +13,19 @@ pub const POINT_ROOM: usize = 6 + 4 * write::SHORT_FIELD + 1;
 // `total`, three fields of 32 bits, LF.
 pub const TOTAL_ROOM: usize = 5 + 3 * write::SHORT_FIELD + 1;
 
-// What a point's line says: its node, its count since the node's last clearing, the mask of the rules that hold (0: quiet), its period.
-pub struct PointLine {
-    pub node: u32,
-    pub count: u32,
-    pub mask: u32,
-    pub period: u32,
+// What a point's line says: its node, its count since the node's last clearing, for a signal the mask of the rules that hold, and its period.
+pub enum PointLine {
+    Quiet {
+        node: u32,
+        count: u32,
+        period: u32,
+    },
+    Signal {
+        node: u32,
+        count: u32,
+        mask: u32,
+        period: u32,
+    },
 }
 
 // The line `quiet,node,n,period` or `signal,node,n,mask,period`.
@@ -27,17 +34,30 @@ pub fn put_point(out: &mut [u8], at: usize, line: PointLine) -> usize
     ensures { λ r. ⌜ Wrote (now (out .entry)) at (now (out .exit)) r (pointBytes line) ⌝ }
     ensures { λ r. ⌜ r ≤ at + pointRoom ⌝ }
 {
-    if line.mask == 0 {
-        let a = put_short_named(out, at, b"quiet", line.node);
-        let b = put_short_field(out, a, line.count);
-        let e = put_short_field(out, b, line.period);
-        return put_byte(out, e, b'\n');
+    match line {
+        PointLine::Quiet {
+            node,
+            count,
+            period,
+        } => {
+            let a = put_short_named(out, at, b"quiet", node);
+            let b = put_short_field(out, a, count);
+            let e = put_short_field(out, b, period);
+            put_byte(out, e, b'\n')
+        }
+        PointLine::Signal {
+            node,
+            count,
+            mask,
+            period,
+        } => {
+            let a = put_short_named(out, at, b"signal", node);
+            let b = put_short_field(out, a, count);
+            let e = put_short_field(out, b, mask);
+            let f = put_short_field(out, e, period);
+            put_byte(out, f, b'\n')
+        }
     }
-    let a = put_short_named(out, at, b"signal", line.node);
-    let b = put_short_field(out, a, line.count);
-    let e = put_short_field(out, b, line.mask);
-    let f = put_short_field(out, e, line.period);
-    put_byte(out, f, b'\n')
 }
 
 // What a node's last line says: the node, its points and its signals.

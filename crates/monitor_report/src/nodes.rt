@@ -1,13 +1,14 @@
 // One core of the bench: its monitor, its points and its signals; and the last lines, one for each node that has points.
+use crate::PointLine;
 use crate::TotalLine;
 use crate::put_total;
 use monitor::Monitor;
+use monitor::Taken;
 use monitor_text::NODES;
 use rules::RuleList;
 ghost use mathlib.Core.Path.{_≡_};
-ghost use mathlib.Core.Bool.{true, cond};
+ghost use mathlib.Core.Bool.{true};
 ghost use Prim.Native.Nat.{_+_, _*_, _<_, _≤_};
-ghost use lib.Dec.{eqb};
 ghost use lib.ListN.{length};
 ghost use Rattle.rules.specs.Bounds.{zoneCount, maxRules, maxNumber};
 ghost use Rattle.rules.specs.Check.{activeRules};
@@ -26,11 +27,9 @@ pub(crate) struct Node {
     pub(crate) signals: u32,
 }
 
-// What a point does to its node: its count, the mask of all rules that hold, 0 for quiet, its period, and the node behind it.
+// What a point of a node says, and the node behind it.
 pub(crate) struct NodePoint {
-    pub(crate) count: u32,
-    pub(crate) mask: u32,
-    pub(crate) period: u32,
+    pub(crate) line: PointLine,
     pub(crate) next: Node,
 }
 
@@ -45,35 +44,42 @@ pub(crate) fn fresh_node() -> Node
     }
 }
 
-// 1 for a signal, else 0.
-fn one_signal(mask: u32) -> u32
-    ensures { λ r. ⌜ r ≡ cond (eqb mask 0) 0 1 ⌝ }
-{
-    if mask == 0 { 0 } else { 1 }
-}
-
-// A node's next point.
-pub(crate) fn chart_point(node: Node, list: RuleList, zone: u32) -> NodePoint
+// The next point of node number k.
+pub(crate) fn chart_point(k: u32, node: Node, list: RuleList, zone: u32) -> NodePoint
     requires { ⌜ (list .len ≤ maxRules) × AllInBounds (activeRules list) × (zone < zoneCount) ⌝ }
     requires { ⌜ (node .monitor .count < maxNumber) × (node .points < maxNumber) × (node .signals < maxNumber) ⌝ }
     requires { ⌜ validState (node .monitor .count) (activeRules list) (node .monitor .state) ≡ true ⌝ }
-    ensures { λ r. ⌜ r ≡ nodeTaken (activeRules list) node zone ⌝ }
+    ensures { λ r. ⌜ r ≡ nodeTaken (activeRules list) k node zone ⌝ }
 {
     let monitor = node.monitor;
     let count = monitor.count + 1;
-    let taken = monitor.take(list, zone);
-    let mask = taken.mask;
-    let next = taken.next;
     let points = node.points + 1;
-    let signals = node.signals + one_signal(mask);
-    NodePoint {
-        count,
-        mask,
-        period: points,
-        next: Node {
-            monitor: next,
-            points,
-            signals,
+    let signals = node.signals;
+    match monitor.take(list, zone) {
+        Taken::Quiet(next) => NodePoint {
+            line: PointLine::Quiet {
+                node: k,
+                count,
+                period: points,
+            },
+            next: Node {
+                monitor: next,
+                points,
+                signals,
+            },
+        },
+        Taken::Signal(mask) => NodePoint {
+            line: PointLine::Signal {
+                node: k,
+                count,
+                mask,
+                period: points,
+            },
+            next: Node {
+                monitor: Monitor::fresh(),
+                points,
+                signals: signals + 1,
+            },
         },
     }
 }

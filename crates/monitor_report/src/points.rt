@@ -1,5 +1,4 @@
 // The lines of a text's points, read again one by one, each charted by the monitor of its node.
-use crate::PointLine;
 use crate::nodes::chart_point;
 use crate::nodes::fresh_node;
 use crate::nodes::put_totals;
@@ -53,18 +52,10 @@ pub(crate) fn put_points(
         let values = read.values;
         let node = values[0];
         let zone = zone_at(signed_value(values[1]), chart.centre, chart.sigma);
-        let point = chart_point(nodes[node as usize], list, zone);
-        let count = point.count;
-        let mask = point.mask;
-        let period = point.period;
-        let line = PointLine {
-            node,
-            count,
-            mask,
-            period,
-        };
-        end = put_point(out, end, line);
+        let point = chart_point(node, nodes[node as usize], list, zone);
+        let line = point.line;
         let next_node = point.next;
+        end = put_point(out, end, line);
         nodes[node as usize] = next_node;
         i = next;
     }

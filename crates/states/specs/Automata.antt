@@ -14,7 +14,7 @@ use Rattle.runlength.specs.Automaton.{Automaton, Move, quiet, signal}
 -- the monitor's move as an automaton's
 abbrev pub automatonMove : MonitorMove → Move ℕ
 automatonMove (Quiet t) = quiet t
-automatonMove Signal = signal
+automatonMove (Signal mask) = signal
 
 -- the chart by its state
 abbrev pub stateAutomaton : List Rule → Automaton ℕ

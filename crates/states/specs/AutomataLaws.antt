@@ -48,13 +48,13 @@ module _ (rs : List Rule) (bounds : AllInBounds rs) where
       (eq-zero-or-pos (stateMask rs r z))
 
   -- by one rule for both: a signal where the mask is not 0
-  same-mask : (row : List ℕ) (b : Bool) → Alike (OfRow rs) (cond b (quiet row) signal) (automatonMove (cond b (Quiet (stateOfRow rs row)) Signal))
+  same-mask : (row : List ℕ) (mask : ℕ) (b : Bool) → Alike (OfRow rs) (cond b (quiet row) signal) (automatonMove (cond b (Quiet (stateOfRow rs row)) (Signal mask)))
   unfolding Alike
-  same-mask row true = record { is = refl }
-  same-mask row false = tt
+  same-mask row mask true = record { is = refl }
+  same-mask row mask false = tt
 
   row-kept : (row : List ℕ) (s : ℕ) → OfRow rs row s → (z : ℕ) → Alike (OfRow rs) (referenceAutomaton rs .move row z) (stateAutomaton rs .move s z)
-  row-kept row s p z = rw (p .is, move-of-row rs bounds row z) (same-mask (z ∷ row) (eqb (rowMask rs (z ∷ row)) 0))
+  row-kept row s p z = rw (p .is, move-of-row rs bounds row z) (same-mask (z ∷ row) (rowMask rs (z ∷ row)) (eqb (rowMask rs (z ∷ row)) 0))
 
   -- the state moves as the row that it is the state of
   row-simulation : Simulation (referenceAutomaton rs) (stateAutomaton rs) (OfRow rs)

@@ -15,9 +15,9 @@ use Rattle.states.specs.Explore.{Explorable, Visitable, Visited}
 use Rattle.states.specs.ExploreLaws.{Exploring, explore-met, turn-signal, turn-known, turn-new, turn-over}
 
 module _ {list : RuleList} {f m : List ℕ} {n k : ℕ} (v : Visitable list f m n k) where
-  pub visit-signal : moveOf (activeRules list) (getD f (k / zoneCount) 0) (k % zoneCount) ≡ Signal
+  pub visit-signal : (mask : ℕ) → moveOf (activeRules list) (getD f (k / zoneCount) 0) (k % zoneCount) ≡ Signal mask
       → Visited (stateAutomaton (activeRules list)) f m f (set m k maxStates) n k n
-  visit-signal e =
+  visit-signal mask e =
       turn-signal (stateAutomaton (activeRules list)) f m n k (v .few) (v .below) (v .can .found-room) (v .can .entries-room) (ap automatonMove e)
 
   module _ {t j : ℕ} (e : moveOf (activeRules list) (getD f (k / zoneCount) 0) (k % zoneCount) ≡ Quiet t) (q : j ≡ placeOf t (take n f)) where

@@ -33,7 +33,7 @@ fn visit(list: RuleList, found: &mut [u64], moves: &mut [u16], n: usize, k: usiz
     let state = found[k / ZONES];
     let zone = (k % ZONES) as u32;
     match window::move_of(list, state, zone) {
-        Move::Signal => {
+        Move::Signal(_) => {
             moves[k] = RuleList::MAX_STATES as u16;
             n
         }

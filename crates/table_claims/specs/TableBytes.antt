@@ -53,8 +53,7 @@ table-read {s} {w} {rs} {h} t = rw (is-reading tableGrammar clear-table s (right
 pub table-text-once : {s : List ℕ} {w w′ : List ℕ} {rs rs′ : List Rule} {h h′ : ℕ} → TableTextIs s w rs h → TableTextIs s w′ rs′ h′
     → (w ≡ w′) × (rs ≡ rs′) × (h ≡ h′)
 table-text-once {s} {w} {w′} {rs} {rs′} {h} {h′} t t′ =
-    let e = contents-once clear-table (t .text) (t′ .text) in
-    (
+    let e = contents-once clear-table (t .text) (t′ .text) in (
       sym (in-row zoneCount w (t .zones)) ∙ ap weightsIn e ∙ in-row zoneCount w′ (t′ .zones),
       sym (said-rows rs) ∙ ap rulesIn e ∙ said-rows rs′,
       ap horizonIn e,

@@ -10,7 +10,7 @@ use Rattle.window.specs.State.{stateMask, nextState, moveOf}
 -- ---- the move
 
 module _ (rs : List Rule) (s z : ℕ) where
-  pub move-signal : (stateMask rs s z ≡ 0 → ⊥) → moveOf rs s z ≡ Signal
+  pub move-signal : (stateMask rs s z ≡ 0 → ⊥) → moveOf rs s z ≡ Signal (stateMask rs s z)
   unfolding moveOf
   move-signal e = rw (ne-eqb (stateMask rs s z) 0 e)
 

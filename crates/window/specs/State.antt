@@ -33,9 +33,9 @@ nextState (r ∷ rs) s z = nextWindow r (s % windowBase) z + windowBase * nextSt
 abbrev pub stateMask : List Rule → ℕ → ℕ → ℕ
 stateMask rs s z = maskOf (holding rs s z)
 
--- what a point does to a state, whatever the count: a signal where some rule holds, else on to the next state
+-- what a point does to a state, whatever the count: a signal with the mask where some rule holds, else on to the next state
 abbrev pub moveBy : ℕ → ℕ → Move
-moveBy mask t = cond (eqb mask 0) (Quiet t) Signal
+moveBy mask t = cond (eqb mask 0) (Quiet t) (Signal mask)
 
 unfoldable pub moveOf : List Rule → ℕ → ℕ → Move
 moveOf rs s z = moveBy (stateMask rs s z) (nextState rs s z)

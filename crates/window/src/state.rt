@@ -1,4 +1,5 @@
 // The state of all rules: the window of rule i is digit i in base 256.
+use crate::Move;
 use rules::RuleList;
 ghost use mathlib.Core.Path.{_≡_};
 ghost use Prim.Native.Nat.{_*_, _/_, _%_, _^_, _≤_, _<_};
@@ -6,16 +7,10 @@ ghost use Rattle.rules.specs.Bounds.{zoneCount, maxRules};
 ghost use Rattle.rules.specs.Check.{activeRules};
 ghost use Rattle.rules.specs.InBounds.{AllInBounds};
 ghost use Rattle.window.specs.Window.{maxAge, windowBase};
-ghost use Rattle.window.specs.State.{validState, stateMask, nextState};
+ghost use Rattle.window.specs.State.{validState, moveOf};
 ghost use Rattle.window.specs.Settled.{CanBeGiven};
 
-// What a point does to a state: the mask of the rules that hold, and every window with the point in it.
-pub struct StateMove {
-    pub mask: u32,
-    pub next: u64,
-}
-
-// Whether the state can be given with these rules and this many points.
+// Whether the state can be given with these rules and this many points. For the crates of this repository.
 pub fn valid_state(list: RuleList, count: u32, state: u64) -> bool
     requires { ⌜ (list .len ≤ maxRules) × AllInBounds (activeRules list) ⌝ }
     ensures { λ t. ⌜ t ≡ validState count (activeRules list) state ⌝ }
@@ -42,12 +37,12 @@ fn window_at(state: u64, i: u32) -> u64
     (state >> (crate::window::MAX_AGE * i)) % crate::window::BASE
 }
 
-// A point in a state that can be given: every rule's window is moved once, from the last rule to the first.
-pub fn moved(list: RuleList, state: u64, zone: u32) -> StateMove
+// What a point does to a state that can be given, with accepted rules: every rule's window is moved once, from the last rule to the first. For
+// the crates of this repository.
+pub fn move_of(list: RuleList, state: u64, zone: u32) -> Move
     requires { ⌜ (list .len ≤ maxRules) × AllInBounds (activeRules list) × (zone < zoneCount) ⌝ }
     requires given { ⌜ CanBeGiven (activeRules list) state ⌝ }
-    ensures mask { λ r. ⌜ r .mask ≡ stateMask (activeRules list) state zone ⌝ }
-    ensures next { λ r. ⌜ r .next ≡ nextState (activeRules list) state zone ⌝ }
+    ensures { λ r. ⌜ r ≡ moveOf (activeRules list) state zone ⌝ }
 {
     let len = list.len;
     let rules = list.rules;
@@ -60,5 +55,8 @@ pub fn moved(list: RuleList, state: u64, zone: u32) -> StateMove
         mask = moved.holds + 2 * mask;
         next = moved.next + crate::window::BASE * next;
     }
-    StateMove { mask, next }
+    if mask == 0 {
+        return Move::Quiet(next);
+    }
+    Move::Signal(mask)
 }

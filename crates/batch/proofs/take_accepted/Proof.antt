@@ -79,23 +79,35 @@ take-requires c κs =
       at .loop .inv .1 .readable .valid,
     )
 
+enum-known-next : tie.Need-enum-known-next Inv-loop μ-loop
+enum-known-next c = search needs
+
+enum-known-mask : tie.Need-enum-known-mask Inv-loop μ-loop
+enum-known-mask c = search needs
+
 add-t19 : tie.Need-add-t19 Inv-loop μ-loop
 add-t19 c = search needs
 
 add-t21 : tie.Need-add-t21 Inv-loop μ-loop
 add-t21 c = search needs
 
+fresh-requires : tie.Need-fresh-requires Inv-loop μ-loop
+fresh-requires c κs = search needs
+
 returns-2 : tie.Need-returns-2 Inv-loop μ-loop
 returns-2 c =
-    let zoned = c .before .before .before in
+    let t = c .before .before in
+    let taken = t .before .before in
+    let zoned = taken .before in
     let at = zoned .before .before .before .before in
     let start = at .before in
     let s = start .args in
     let v = at .loop .inv .1 in
     let point = point-read v (record { sfits = zoned .before .zone-at-arg .given }) (zoned .zone-at .ensures)
-    (c .before .before .take .ensures) in
-    at-centre (s .list) (s .monitor) (s .sigma) (s .readings .now) (start .fits .centre)
-    (left-signal v (omega arith) (omega arith) point (λ z. omega arith))
+    (sym (t .mask .given .1) ∙ taken .take .ensures) in
+    rw (c .fresh .ensures)
+    (at-centre (s .list) (s .monitor) (s .sigma) (s .readings .now) (start .fits .centre)
+    (left-signal v (omega arith) (omega arith) point))
 
 add-i : tie.Need-add-i Inv-loop μ-loop
 add-i c = search needs
@@ -105,12 +117,14 @@ loop-less c = search needs
 
 loop-again : tie.Need-loop-again Inv-loop μ-loop
 loop-again c =
-    let zoned = c .before .before .before in
+    let t = c .before in
+    let taken = t .before .before in
+    let zoned = taken .before in
     let at = zoned .before .before .before .before in
     let v = at .loop .inv .1 in
     let point = point-read v (record { sfits = zoned .before .zone-at-arg .given }) (zoned .zone-at .ensures)
-    (c .before .before .take .ensures) in
-    (omega arith, left-quiet v (omega arith) (omega arith) point (omega arith))
+    (sym (t .next .given .1) ∙ taken .take .ensures) in
+    (omega arith, left-quiet v (omega arith) (omega arith) point)
 
 returns-3 : tie.Need-returns-3 Inv-loop μ-loop
 returns-3 c =
@@ -132,8 +146,11 @@ take-accepted-spec =
     shared-slice-copy-out-zone-at
     zone-at-requires
     take-requires
+    enum-known-next
+    enum-known-mask
     add-t19
     add-t21
+    fresh-requires
     returns-2
     add-i
     loop-less

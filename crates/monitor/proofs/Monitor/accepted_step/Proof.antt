@@ -2,9 +2,10 @@
 use mathlib.Core.Path.{sym, ap, _∙_}
 use Prim.Native.Nat.{_+_}
 use native.Mathlib.Omega.{arith}
-use borrow.Author.Tests.{eq-eqb, ne-eqb, not-true, not-false}
+use borrow.Author.Tests.{not-true, not-false}
 use Rattle.rules.specs.Check.{activeRules}
-use Rattle.monitor.specs.StepLaws.{step-bad-zone, step-bad-state, step-bad-count, stepTaken, step-take}
+use Rattle.monitor.specs.StepLaws.{step-bad-zone, step-bad-state, step-bad-count, step-take}
+use Rattle.monitor.specs.Take.{stepTaken}
 use borrow.Author.Needs.{needs}
 use Rattle.monitor.proofs.Monitor.accepted_step.Statement.{statement}
 use Rattle.monitor.proofs.Monitor.accepted_step.Tie as tie
@@ -44,29 +45,39 @@ take-requires c κs =
     let start = found .before .before in
     ((start .pre .0, start .pre .1, omega arith, omega arith), sym (found .valid .ensures) ∙ not-false (found .valid .result) (left .if2 .left))
 
+enum-known-next : tie.Need-enum-known-next
+enum-known-next c = search needs
+
+enum-known-mask : tie.Need-enum-known-mask
+enum-known-mask c = search needs
+
+fresh-requires : tie.Need-fresh-requires
+fresh-requires c κs = search needs
+
 returns-4 : tie.Need-returns-4
 returns-4 c =
-    let taken = c .before .before .take in
-    let left = c .before .before .before .before in
+    let t = c .before in
+    let taken = t .before .before in
+    let left = taken .before .before in
     let found = left .before in
     let a = found .before .before .args in
     let valid = sym (found .valid .ensures) ∙ not-false (found .valid .result) (left .if2 .left) in
     sym (
     step-take (activeRules (a .list)) (a .self) (a .zone) (omega arith) valid (omega arith)
-    ∙ ap (stepTaken (a .self .count + 1)) (sym (taken .ensures))
-    ∙ rw (ne-eqb (taken .result .mask) 0 (λ z. omega arith)))
+    ∙ ap (stepTaken (a .self .count + 1)) (sym (taken .take .ensures) ∙ t .next .given .1))
 
 returns-5 : tie.Need-returns-5
 returns-5 c =
-    let taken = c .before .before .take in
-    let left = c .before .before .before .before in
+    let t = c .before .before in
+    let taken = t .before .before in
+    let left = taken .before .before in
     let found = left .before in
     let a = found .before .before .args in
     let valid = sym (found .valid .ensures) ∙ not-false (found .valid .result) (left .if2 .left) in
-    sym (
+    rw (c .fresh .ensures)
+    (sym (
     step-take (activeRules (a .list)) (a .self) (a .zone) (omega arith) valid (omega arith)
-    ∙ ap (stepTaken (a .self .count + 1)) (sym (taken .ensures))
-    ∙ rw (eq-eqb (taken .result .mask) 0 (omega arith)))
+    ∙ ap (stepTaken (a .self .count + 1)) (sym (taken .take .ensures) ∙ t .mask .given .1)))
 
 pub accepted-step-spec : {M : Type 1} → statement M
 accepted-step-spec =
@@ -79,5 +90,8 @@ accepted-step-spec =
     returns-3
     add-count
     take-requires
+    enum-known-next
+    enum-known-mask
+    fresh-requires
     returns-4
     returns-5)

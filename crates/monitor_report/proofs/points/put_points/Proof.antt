@@ -115,7 +115,7 @@ chart-point-requires c κs =
 
 put-point-requires : tie.Need-put-point-requires Inv-loop μ-loop
 put-point-requires c κs =
-    let z = c .before .before .before in
+    let z = c .before .before .before .before in
     let v = z .before .before in
     let k = v .before .before .before in
     let l = k .before .before in
@@ -174,8 +174,8 @@ loop-less c =
 
 loop-again : tie.Need-loop-again Inv-loop μ-loop
 loop-again c =
-    let w = c .before .before .before in
-    let p = w .before .before in
+    let w = c .before .before in
+    let p = w .before .before .before in
     let z = p .before .before in
     let v = z .before .before in
     let k = v .before .before .before in

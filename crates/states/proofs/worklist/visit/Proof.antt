@@ -1,4 +1,5 @@
 -- `explore::visit` meets its contract: each return is one case of the move and of the state's place.
+use Prim.Native.Nat.{ℕ}
 use mathlib.Core.Path.{_≡_, refl, sym, _∙_}
 use native.Mathlib.Omega.{arith}
 use denote.Enum.Declared.{tagOf}
@@ -12,9 +13,9 @@ use Rattle.states.proofs.worklist.visit.Statement.{statement}
 use Rattle.states.proofs.worklist.visit.Tie as tie
 
 -- the match's tag as the constructor
-is-signal : (m : Move) → tagOf the-type m ≡ 1 → m ≡ Signal
+is-signal : (m : Move) → tagOf the-type m ≡ 1 → (mask : ℕ) × (m ≡ Signal mask)
 is-signal (Quiet t) h = absurd (omega arith)
-is-signal Signal h = refl
+is-signal (Signal mask) h = (mask, refl)
 
 mul-state : tie.Need-mul-state
 mul-state c = search needs
@@ -73,7 +74,8 @@ same-length c = search needs
 returns : tie.Need-returns
 returns c =
     let m = c .before .before in
-    visit-signal (m .before .before .before .before .pre) (sym (m .move-of .ensures) ∙ is-signal (m .move-of .result) (c .before .match .keys1))
+    let s = is-signal (m .move-of .result) (c .before .match .keys1) in
+    visit-signal (m .before .before .before .before .pre) (s .0) (sym (m .move-of .ensures) ∙ s .1)
 
 same-length-2 : tie.Need-same-length-2
 same-length-2 c = search needs

@@ -1,18 +1,20 @@
--- `state::moved` meets its contract. The invariant: the rules passed are moved, from the last on.
+-- `state::move_of` meets its contract. The invariant: the rules passed are moved, from the last on; then by the mask, which is 0 or not.
 use Prim.Native.Nat.{ℕ, _-_}
-use mathlib.Core.Path.{ap, _∙_}
+use mathlib.Core.Path.{sym, ap, _∙_}
 use native.Mathlib.Omega.{arith}
 use lib.ListN.{getD}
 use borrow.Author.Needs.{needs}
-use Rattle.rules.specs.Check.{noRule}
+use Rattle.rules.specs.Check.{noRule, activeRules}
 use Rattle.rules.specs.Mask.{bit}
 use Rattle.window.specs.Window.{nextWindow, windowHolds}
 use Rattle.window.specs.Settled.{MovedFrom}
 use Rattle.window.specs.StateLaws.{bounds-cons, bounds-from, bit-le, window-small}
 use Rattle.window.specs.StateLaws.{moved-none, moved-fits, moved-more, moved-all}
+use Rattle.window.specs.MoveLaws.{move-quiet, move-signal}
+use Rattle.window.specs.declared.Move.the-variants.{Quiet, Signal}
 use Rattle.window.specs.SettledLaws.{settled-at}
-use Rattle.window.proofs.state.moved.Statement.{statement}
-use Rattle.window.proofs.state.moved.Tie as tie
+use Rattle.window.proofs.state.move_of.Statement.{statement}
+use Rattle.window.proofs.state.move_of.Tie as tie
 
 abbrev Inv-loop : tie.InvT-loop
 Inv-loop state zone len rules mask₀ next₀ i₀ mask next i = MovedFrom rules len state zone i mask next
@@ -103,10 +105,21 @@ loop-again c =
     (m .settled-move .ensures .1 ∙ ap (λ (w : ℕ). nextWindow r w (a .zone)) w)
 
 returns : tie.Need-returns Inv-loop μ-loop
-returns c = moved-all (c .before .loop .inv) (omega arith)
+returns c =
+    let start = c .before .before .before .before in
+    let a = start .args in
+    let all = moved-all (c .before .before .loop .inv) (omega arith) in
+    ap Quiet (all .1) ∙ sym (move-quiet (activeRules (a .list)) (a .state) (a .zone) (omega (arith, all .0)))
 
-pub moved-spec : {M : Type 1} → statement M
-moved-spec =
+returns-2 : tie.Need-returns-2 Inv-loop μ-loop
+returns-2 c =
+    let start = c .before .before .before .before in
+    let a = start .args in
+    let all = moved-all (c .before .before .loop .inv) (omega arith) in
+    ap Signal (all .0) ∙ sym (move-signal (activeRules (a .list)) (a .state) (a .zone) (λ z. omega (arith, all .0)))
+
+pub move-of-spec : {M : Type 1} → statement M
+move-of-spec =
     tie.close
     (tie.spec
     Inv-loop
@@ -124,4 +137,5 @@ moved-spec =
     add-next
     loop-less
     loop-again
-    returns)
+    returns
+    returns-2)
