@@ -18,8 +18,8 @@ use Rattle.grammar.specs.Size.{maxText}
 use Rattle.grammar.specs.Reading.{Reading, readText}
 use Rattle.grammar.specs.Read.{ReadingIs, too-long, wrong, right}
 use Rattle.grammar.specs.GrammarLaws.{contents-once, reading-is, is-reading}
-use Rattle.weights_report.specs.declared.shifts.ShiftText.the-variants.{Given, Refused}
-use Rattle.weights_report.specs.ShiftText.{shiftWord, shiftGrammar, shiftBy, shiftText}
+use Rattle.weights_report.specs.declared.shifts.ShiftText.{ShiftText}
+use Rattle.weights_report.specs.ShiftText.{shiftWord, shiftGrammar, refusedShift, readShift, shiftBy, shiftText}
 use Rattle.weights_report.specs.ShiftTextLaws.{clear-shift}
 use Rattle.weights_claims.specs.WeightsTexts.{ShiftTextIs}
 
@@ -39,7 +39,7 @@ text-short {s} {x} t =
     let e : length s ≡ length ((shiftWord ++ (signedField x ++ newline)) ++ []) = ap length (t .text .bytes) in
     omega (arith, e, length-append (shiftWord ++ (signedField x ++ newline)) [], length-append shiftWord (signedField x ++ newline), length-append (signedField x) newline, signed-short x f)
 
-pub shift-read : {s : List ℕ} {x : ℤ} → ShiftTextIs s x → shiftText s ≡ Given x
+pub shift-read : {s : List ℕ} {x : ℤ} → ShiftTextIs s x → shiftText s ≡ readShift x
 unfolding shiftText shiftBy
 shift-read {s} {x} t = rw (is-reading shiftGrammar clear-shift s (right (text-short t) (t .text)))
 
@@ -48,21 +48,21 @@ pub shift-text-once : {s : List ℕ} {x y : ℤ} → ShiftTextIs s x → ShiftTe
 shift-text-once t u = ap (λ (c : Contents shiftGrammar). c .0 .0) (contents-once clear-shift (t .text) (u .text))
 
 -- A text is accepted exactly where it is the line of a shift.
-pub shift-exactly : (s : List ℕ) (x : ℤ) → shiftText s ≡ Given x → ShiftTextIs s x
+pub shift-exactly : (s : List ℕ) (x : ℤ) → shiftText s ≡ readShift x → ShiftTextIs s x
 unfolding shiftText shiftBy
 shift-exactly s x e = go (readText shiftGrammar s) (reading-is shiftGrammar clear-shift s) e
   where
-    go : (r : Reading (Contents shiftGrammar)) → ReadingIs shiftGrammar s r → shiftBy r ≡ Given x → ShiftTextIs s x
-    go r (too-long l) e = let z : _≡_ {A = ℕ} 0 1 = cc in absurd (omega arith)
-    go r (wrong l st) e = let z : _≡_ {A = ℕ} 0 1 = cc in absurd (omega arith)
-    go r (right {c} l t) e = let same : c .0 .0 ≡ x = cc in rw (← same) (record { text = t })
+    go : (r : Reading (Contents shiftGrammar)) → ReadingIs shiftGrammar s r → shiftBy r ≡ readShift x → ShiftTextIs s x
+    go r (too-long l) e = let z : _≡_ {A = ℕ} 17 0 = ap (λ (t : ShiftText). t .refusal .number) e in absurd (omega arith)
+    go r (wrong l st) e = let z : _≡_ {A = ℕ} 16 0 = ap (λ (t : ShiftText). t .refusal .number) e in absurd (omega arith)
+    go r (right {c} l t) e = let same : c .0 .0 ≡ x = ap (λ (t : ShiftText). t .shift) e in rw (← same) (record { text = t })
 
 -- ---- and a text that stops being one is refused by 16, there
 
-pub shift-stopped : {s : List ℕ} {place : ℕ} → length s ≤ maxText → Stops shiftGrammar s place → shiftText s ≡ Refused (badLine place)
+pub shift-stopped : {s : List ℕ} {place : ℕ} → length s ≤ maxText → Stops shiftGrammar s place → shiftText s ≡ refusedShift (badLine place)
 unfolding shiftText shiftBy
 shift-stopped {s} {place} l st = rw (is-reading shiftGrammar clear-shift s (wrong l st))
 
-pub shift-too-long : (s : List ℕ) → maxText < length s → shiftText s ≡ Refused tooLong
+pub shift-too-long : (s : List ℕ) → maxText < length s → shiftText s ≡ refusedShift tooLong
 unfolding shiftText shiftBy
 shift-too-long s l = rw (is-reading shiftGrammar clear-shift s (too-long l))

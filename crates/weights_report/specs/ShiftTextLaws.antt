@@ -15,13 +15,12 @@ use Rattle.grammar.specs.Form.{line}
 use Rattle.grammar.specs.Grammar.{Contents}
 use Rattle.grammar.specs.Clear.{Clear}
 use Rattle.grammar.specs.Size.{maxText}
-use Rattle.grammar.specs.Reading.{Reading, read, stopped, long, also, readAt, readText}
+use Rattle.grammar.specs.Reading.{Reading, stopped, long, also, readAt, readText}
 use Rattle.grammar.specs.StepLaws.{read-line, read-other, read-end, read-more}
 use Rattle.text.specs.declared.lines.LineRead.{LineRead}
 use Rattle.text.specs.LineRead.{placesOf, codes, lineReadAt}
 use Rattle.text.specs.LineReadLaws.{SeenLine, line-seen, line-none}
-use Rattle.weights_report.specs.declared.shifts.ShiftText.the-variants.{Given, Refused}
-use Rattle.weights_report.specs.ShiftText.{shiftWord, shiftLine, shiftGrammar, shiftBy, shiftText}
+use Rattle.weights_report.specs.ShiftText.{shiftWord, shiftLine, shiftGrammar, refusedShift, readShift, shiftBy, shiftText}
 
 -- a line's keyword tells its place and its fields
 pub clear-shift : Clear shiftGrammar
@@ -31,7 +30,7 @@ of-reading : (s : List ℕ) {r : Reading (Contents shiftGrammar)} → readText s
 unfolding shiftText
 of-reading s e = sym (ap shiftBy e)
 
-pub too-long : (s : List ℕ) → maxText < length s → Refused tooLong ≡ shiftText s
+pub too-long : (s : List ℕ) → maxText < length s → refusedShift tooLong ≡ shiftText s
 unfolding shiftBy readText
 too-long s h = of-reading s (cut s h)
   where
@@ -39,7 +38,7 @@ too-long s h = of-reading s (cut s h)
     cut s h = rw (lt-leb (length s) maxText h)
 
 module _ (s : List ℕ) (short : length s ≤ maxText) {f : LineRead} (fe : f ≡ lineReadAt shiftWord (signed ∷ []) s 0) where
-  pub other-first : f .next ≡ Absent → Refused (badLine 1) ≡ shiftText s
+  pub other-first : f .next ≡ Absent → refusedShift (badLine 1) ≡ shiftText s
   unfolding shiftBy readText
   other-first q =
       let b : readText shiftGrammar s ≡ stopped 1 =
@@ -54,7 +53,7 @@ module _ (s : List ℕ) (short : length s ≤ maxText) {f : LineRead} (fe : f �
     unfolding readText
     behind = rw (le-leb (length s) maxText short) (read-line (line shiftLine) [] s 0 1 (x .is))
 
-    pub goes-on : end < length s → Refused (badLine 2) ≡ shiftText s
+    pub goes-on : end < length s → refusedShift (badLine 2) ≡ shiftText s
     unfolding shiftBy
     goes-on m = of-reading s (behind ∙ ap (λ (y : Reading (Unit {0})). also (x .row) y) (read-more s end 2 m))
 
@@ -63,8 +62,8 @@ module _ (s : List ℕ) (short : length s ≤ maxText) {f : LineRead} (fe : f �
     value-is =
         ap (λ (v : List ℕ). lowered (getD v 0 0)) (x .values) ∙ lowered-raised (x .row .0) (x .fits .0)
 
-    pub whole : {y : ℤ} → y ≡ lowered (getD (f .values) 0 0) → length s ≤ end → Given y ≡ shiftText s
+    pub whole : {y : ℤ} → y ≡ lowered (getD (f .values) 0 0) → length s ≤ end → readShift y ≡ shiftText s
     unfolding shiftBy
     whole e m =
-        ap Given (e ∙ value-is)
+        ap readShift (e ∙ value-is)
         ∙ of-reading s (behind ∙ ap (λ (y : Reading (Unit {0})). also (x .row) y) (read-end s end 2 m))

@@ -1,6 +1,8 @@
 -- TO BELIEVE: what the weights program prints for a text. Definitions.
 use Prim.Native.Nat.{ℕ}
+use mathlib.Core.Bool.{cond}
 use mathlib.Core.List.{List}
+use lib.Dec.{eqb}
 use Rattle.shift.specs.declared.ShiftAnswer.{ShiftAnswer}
 use Rattle.shift.specs.Shift.{shiftOf}
 use Rattle.weights_report.specs.declared.shifts.ShiftText.{ShiftText}
@@ -10,8 +12,7 @@ use Rattle.write.specs.Printed.{Printed, lines, refusedBy}
 
 -- the operation on what was read: the text's refusal, 17 or 16, comes before its own, 18
 abbrev pub weightsFor : ShiftText → ShiftAnswer
-weightsFor (ShiftText.Given s) = shiftOf s
-weightsFor (ShiftText.Refused x) = ShiftAnswer.Refused x
+weightsFor t = cond (eqb (t .refusal .number) 0) (shiftOf (t .shift)) (ShiftAnswer.Refused (t .refusal))
 
 unfoldable pub textWeights : List ℕ → ShiftAnswer
 textWeights s = weightsFor (shiftText s)

@@ -5,12 +5,22 @@ use rules::Refusal;
 use text::MAX_TEXT;
 use text::line_at;
 ghost use mathlib.Core.Path.{_≡_};
-ghost use Rattle.weights_report.specs.ShiftText.{shiftText};
+ghost use Rattle.rules.specs.Refusal.{refusal};
+ghost use Rattle.weights_report.specs.ShiftText.{refusedShift, shiftText};
 
-// The shift, in hundredths of sigma; or the refusal.
-pub enum ShiftText {
-    Given(i32),
-    Refused(Refusal),
+// What was read, with the number 0: the shift, in hundredths of sigma. Or the refusal, and 0.
+pub struct ShiftText {
+    pub refusal: Refusal,
+    pub shift: i32,
+}
+
+fn refused_shift(number: u32, place: u32) -> ShiftText
+    ensures { λ r. ⌜ r ≡ refusedShift (refusal number place) ⌝ }
+{
+    ShiftText {
+        refusal: Refusal { number, place },
+        shift: 0,
+    }
 }
 
 // The text read whole: 17, then 16 at the first line that is not the one expected.
@@ -18,25 +28,22 @@ pub fn shift_text(text: &[u8]) -> ShiftText
     ensures { λ r. ⌜ r ≡ shiftText (now (text .entry)) ⌝ }
 {
     if text.len() > MAX_TEXT {
-        return ShiftText::Refused(Refusal {
-            number: Refusal::TEXT_SIZE,
-            place: 0,
-        });
+        return refused_shift(Refusal::TEXT_SIZE, 0);
     }
     let first = line_at(text, 0, b"shift", b"s");
     let behind = first.next;
     let Found::At(next) = behind else {
-        return ShiftText::Refused(Refusal {
-            number: Refusal::LINE,
-            place: 1,
-        });
+        return refused_shift(Refusal::LINE, 1);
     };
     if next < text.len() {
-        return ShiftText::Refused(Refusal {
-            number: Refusal::LINE,
-            place: 2,
-        });
+        return refused_shift(Refusal::LINE, 2);
     }
     let values = first.values;
-    ShiftText::Given(signed_value(values[0]))
+    ShiftText {
+        refusal: Refusal {
+            number: 0,
+            place: 0,
+        },
+        shift: signed_value(values[0]),
+    }
 }

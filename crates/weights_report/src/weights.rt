@@ -1,6 +1,5 @@
 // What the weights program prints for a text.
 use crate::WEIGHTS_SIZE;
-use crate::shifts::ShiftText;
 use crate::shifts::shift_text;
 use shift::ShiftAnswer;
 use write::ReportAnswer;
@@ -14,10 +13,11 @@ fn text_weights(text: &[u8]) -> ShiftAnswer
     ensures { λ r. ⌜ r ≡ textWeights (now (text .entry)) ⌝ }
 {
     let read = shift_text(text);
-    match read {
-        ShiftText::Refused(r) => ShiftAnswer::Refused(r),
-        ShiftText::Given(s) => shift::shift_weights(s),
+    let refusal = read.refusal;
+    if refusal.number != 0 {
+        return ShiftAnswer::Refused(refusal);
     }
+    shift::shift_weights(read.shift)
 }
 
 // The weights program's line for a text, in the lent buffer; or the refusal, with the buffer as it was: 17; 16; 18.
