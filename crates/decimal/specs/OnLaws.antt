@@ -4,7 +4,7 @@ use mathlib.Core.Path.{_≡_}
 use Rattle.decimal.specs.declared.word.Found.{Found}
 use Rattle.decimal.specs.declared.word.Found.the-variants.{At, Absent}
 use Rattle.decimal.specs.declared.number.Number.{Number}
-use Rattle.decimal.specs.declared.number.Number.the-variants.{Value, NoNumber}
+use Rattle.decimal.specs.declared.number.Number.the-variants.{Value}
 use Rattle.decimal.specs.Word.{onFound}
 use Rattle.decimal.specs.Number.{onNumber}
 
@@ -16,6 +16,3 @@ absent f other e = rw e
 
 pub number : {A : Type 0} {x : Number} (f : ℕ → ℕ → A) (other : A) {n i : ℕ} → x ≡ Value n i → onNumber x f other ≡ f n i
 number f other e = rw e
-
-pub no-number : {A : Type 0} {x : Number} (f : ℕ → ℕ → A) (other : A) → x ≡ NoNumber → onNumber x f other ≡ other
-no-number f other e = rw e

@@ -12,16 +12,6 @@ use Rattle.write.specs.declared.ReportAnswer.the-variants.{Written, Refu
 use Rattle.write.specs.Refused.{refusedLine}
 use Rattle.write.specs.Printed.{Printed, lines, refusedBy, printedBytes, OutputIs, Report, report, reportOf}
 
-pub written-within : (p : Printed) (out out′ : List ℕ) (a : ReportAnswer) (n : ℕ) → report a out′ ≡ reportOf p out → a ≡ Written n → n ≤ length out′
-written-within (lines bytes) out out′ a n e q =
-    let answer : a ≡ Written (length bytes) = ap (λ (r : Report). r .answer) e in
-    let count : n ≡ length bytes = cc in
-    omega (arith, ap (λ (r : Report). length (r .buffer)) e, length-append bytes (drop (length bytes) out))
-written-within (refusedBy x) out out′ a n e q =
-    let answer : a ≡ Refused x = ap (λ (r : Report). r .answer) e in
-    let z : _≡_ {A = ℕ} 0 1 = cc in
-    absurd (omega arith)
-
 -- a refusal, or the lines and where they end
 pub as-refused : {p : Printed} (x : Refusal) (out : List ℕ) → p ≡ refusedBy x → report (Refused x) out ≡ reportOf p out
 as-refused x out e = sym (ap (λ (y : Printed). reportOf y out) e)
