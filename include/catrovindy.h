@@ -134,7 +134,7 @@ enum {
     CATROVINDY_BAD_COUNT = 7,        /* the count is 4,294,967,295 */
     CATROVINDY_BAD_WEIGHTS = 8,      /* the weights do not sum to 2^30 */
     CATROVINDY_BAD_HORIZON = 9,      /* the horizon is outside 1 to 65,535; in a text, outside 1 to 4,096 */
-    CATROVINDY_BAD_STATE_COUNT = 10, /* the rules have more than 1,024 states before merging */
+    CATROVINDY_TOO_MANY_STATES = 10, /* the rules have more than 1,024 states before merging */
     CATROVINDY_SHORT_LIST = 11,      /* a lent list is shorter than the horizon */
     CATROVINDY_BAD_LIST = 12,        /* the list of chances is empty, or has more than 65,535 places */
     CATROVINDY_BAD_N = 13,           /* the number of states is outside 1 to 1,024 */
@@ -169,7 +169,7 @@ static inline const char *catrovindy_meaning(uint64_t code) {
     case CATROVINDY_BAD_COUNT: return "The monitor has counted 4,294,967,295 points with no signal, and can count no further.";
     case CATROVINDY_BAD_WEIGHTS: return "The weights of the eight zones do not sum to 2^30, which is 1,073,741,824.";
     case CATROVINDY_BAD_HORIZON: return "The horizon is outside 1 to 65,535, or in a text outside 1 to 4,096.";
-    case CATROVINDY_BAD_STATE_COUNT: return "The rules have more than 1,024 states before merging, too many for a table.";
+    case CATROVINDY_TOO_MANY_STATES: return "The rules have more than 1,024 states before merging, too many for a table.";
     case CATROVINDY_SHORT_LIST: return "A list that was lent for the table is shorter than the horizon.";
     case CATROVINDY_BAD_LIST: return "The list of chances is empty, or has more than 65,535 places.";
     case CATROVINDY_BAD_N: return "The number of states is outside 1 to 1,024.";

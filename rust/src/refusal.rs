@@ -39,7 +39,7 @@ impl Refusal {
     /// The horizon is outside 1 to 65,535; in a text, outside 1 to 4,096.
     pub const BAD_HORIZON: u32 = 9;
     /// The rules have more than 1,024 states before merging.
-    pub const BAD_STATE_COUNT: u32 = 10;
+    pub const TOO_MANY_STATES: u32 = 10;
     /// A lent list is shorter than the horizon.
     pub const SHORT_LIST: u32 = 11;
     /// The list of chances is empty, or has more than 65,535 places.
@@ -81,7 +81,7 @@ impl Refusal {
             Refusal::BAD_COUNT => "The monitor has counted 4,294,967,295 points with no signal, and can count no further.",
             Refusal::BAD_WEIGHTS => "The weights of the eight zones do not sum to 2^30, which is 1,073,741,824.",
             Refusal::BAD_HORIZON => "The horizon is outside 1 to 65,535, or in a text outside 1 to 4,096.",
-            Refusal::BAD_STATE_COUNT => "The rules have more than 1,024 states before merging, too many for a table.",
+            Refusal::TOO_MANY_STATES => "The rules have more than 1,024 states before merging, too many for a table.",
             Refusal::SHORT_LIST => "A list that was lent for the table is shorter than the horizon.",
             Refusal::BAD_LIST => "The list of chances is empty, or has more than 65,535 places.",
             Refusal::BAD_N => "The number of states is outside 1 to 1,024.",

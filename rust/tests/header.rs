@@ -153,7 +153,7 @@ fn ours() -> Numbers {
         ("BAD_COUNT", Refusal::BAD_COUNT.into()),
         ("BAD_WEIGHTS", Refusal::BAD_WEIGHTS.into()),
         ("BAD_HORIZON", Refusal::BAD_HORIZON.into()),
-        ("BAD_STATE_COUNT", Refusal::BAD_STATE_COUNT.into()),
+        ("TOO_MANY_STATES", Refusal::TOO_MANY_STATES.into()),
         ("SHORT_LIST", Refusal::SHORT_LIST.into()),
         ("BAD_LIST", Refusal::BAD_LIST.into()),
         ("BAD_N", Refusal::BAD_N.into()),

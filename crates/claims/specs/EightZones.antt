@@ -1,5 +1,5 @@
--- CLAIMS: the exact sum draws on all eight zones; and where C0 has weight 0, the exact figures, and the table's to the
--- last unit, are those of the seven others.
+-- CLAIMS: the exact sum draws on all eight zones; and where C0 has weight 0, the exact figures are those of the seven others, and the table's, to the
+-- last unit, those of the states, among those that differ, that the seven others meet.
 use Prim.Native.Nat.{ℕ, zero, suc, _*_, _≤_, _<_}
 use mathlib.Core.Path.{_≡_, refl, sym, ap, _∙_}
 use mathlib.Core.List.{List, [], _∷_, _++_, append-assoc, append-nil}

@@ -11,8 +11,8 @@ ghost use mathlib.Core.Path.{_≡_};
 ghost use Rattle.write.specs.Printed.{report, reportOf, printedBytes, OutputIs};
 ghost use Rattle.monitor_report.specs.MonitorReport.{monitorPrinted};
 
-// The monitor program's lines for a text, in the lent buffer; or the refusal, with the buffer as it was: 17; 16; then 2, 3, 4; then 1, also
-// where there are no points.
+// The monitor program's lines for a text, in the lent buffer; or the refusal, with the buffer as it was: 17; 16; 19; then 2, 3, 4; then 1,
+// also where there are no points.
 pub fn monitor_report(text: &[u8], out: &mut [u8; MONITOR_SIZE]) -> ReportAnswer
     ensures { λ r. ⌜ report r (now (out .exit)) ≡ reportOf (monitorPrinted (now (text .entry))) (now (out .entry)) ⌝ }
 {

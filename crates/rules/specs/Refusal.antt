@@ -1,4 +1,4 @@
--- TO BELIEVE: refusals: every number of document 01, by name, each written here once. Definitions.
+-- TO BELIEVE: refusals: every number that there is, by name, each written here once. Definitions.
 use Prim.Native.Nat.{ℕ}
 use Rattle.rules.specs.declared.refusal.Refusal.{Refusal}
 

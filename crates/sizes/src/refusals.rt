@@ -15,7 +15,7 @@ pub fn monitor() {
 pub fn table() {
     line(b"BAD_WEIGHTS,", Refusal::WEIGHTS as u64);
     line(b"BAD_HORIZON,", Refusal::HORIZON as u64);
-    line(b"BAD_STATE_COUNT,", Refusal::STATES as u64);
+    line(b"TOO_MANY_STATES,", Refusal::STATES as u64);
     line(b"SHORT_LIST,", Refusal::SHORT_LIST as u64);
 }
 
