@@ -16,7 +16,7 @@ use Rattle.monitor.specs.declared.Monitor.{Monitor}
 use Rattle.window.specs.declared.Move.{Move}
 use Rattle.monitor.specs.declared.Step.the-variants.{Refused}
 use Rattle.window.specs.State.{validState, moveOf}
-use Rattle.window.specs.Givable.{GivableState}
+use Rattle.window.specs.CanStand.{StateCanStand}
 use Rattle.window.specs.ValidLaws.{state-exactly}
 use Rattle.window.specs.WindowLaws.{le-or-lt}
 use Rattle.monitor.specs.Step.{stepAnswer, acceptedStep, stepOf}
@@ -52,14 +52,14 @@ module _ (rs : List Rule) (m : Monitor) (z : ℕ) (zone : z < zoneCount) where
 -- With accepted rules and a zone that exists, a step is refused by 5 exactly when the state cannot be given: when it is not so that no window has k
 -- or more hits, no hit should be forgotten, none is older than the points counted and none stands in a window beyond the rules.
 pub refused-by-5 : (l : RuleList) → checkOf l ≡ Accepted → (m : Monitor) (z : ℕ) → z < zoneCount
-    → (stepOf l m z ≡ Refused badState) ↔ (GivableState (m .count) (activeRules l) (m .state) → ⊥)
+    → (stepOf l m z ≡ Refused badState) ↔ (StateCanStand (m .count) (activeRules l) (m .state) → ⊥)
 refused-by-5 l ok m z zone = (to, from)
   where
-    to : stepOf l m z ≡ Refused badState → GivableState (m .count) (activeRules l) (m .state) → ⊥
+    to : stepOf l m z ≡ Refused badState → StateCanStand (m .count) (activeRules l) (m .state) → ⊥
     to e g =
         valid-taken (activeRules l) m z zone (state-exactly (m .count) (activeRules l) (m .state) .1 g) (sym (rules-accepted l ok m z) ∙ e)
 
-    from : (GivableState (m .count) (activeRules l) (m .state) → ⊥) → stepOf l m z ≡ Refused badState
+    from : (StateCanStand (m .count) (activeRules l) (m .state) → ⊥) → stepOf l m z ≡ Refused badState
     from n = go (validState (m .count) (activeRules l) (m .state)) refl
       where
         go : (b : Bool) → validState (m .count) (activeRules l) (m .state) ≡ b → stepOf l m z ≡ Refused badState

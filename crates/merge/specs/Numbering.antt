@@ -41,7 +41,7 @@ abbrev pub carried : ℕ → List ℕ → List ℕ → List ℕ → ℕ → ℕ
 carried n m classes firsts k = labelOf n classes (at m (zoneCount * at firsts (k / zoneCount) + k % zoneCount))
 
 -- what carrying the moves over asks for
-pub record Carriable (n : ℕ) (m classes firsts merged : List ℕ) (count : ℕ) : Type 0 where
+pub record CanCarry (n : ℕ) (m classes firsts merged : List ℕ) (count : ℕ) : Type 0 where
   pub few : n ≤ maxStates
   pub fewer : count ≤ n
   pub first-below : (c : ℕ) → c < count → at firsts c < n

@@ -20,7 +20,7 @@ use Rattle.runlength.specs.MergedLaws.{class-leads, count-most, first-of}
 use Rattle.merge.specs.Merge.{entryOf, givenChart, mergedCount, mergedMoves, Mergeable}
 use Rattle.merge.specs.Rounds.{labelOf, nextLeader, HasRoom, HoldsLeaders}
 use Rattle.merge.specs.RoundsLaws.{none-held, next-leader}
-use Rattle.merge.specs.Numbering.{Led, Numbered, Numberable, CanNumber, carried, Carriable}
+use Rattle.merge.specs.Numbering.{Led, Numbered, Numberable, CanNumber, carried, CanCarry}
 
 -- ---- one state more
 
@@ -101,7 +101,7 @@ numbered-all q e = rw e at q
 
 -- ---- an entry of the merged moves
 
-module _ {n : ℕ} {m classes firsts merged : List ℕ} {count : ℕ} (p : Carriable n m classes firsts merged count) (k : ℕ)
+module _ {n : ℕ} {m classes firsts merged : List ℕ} {count : ℕ} (p : CanCarry n m classes firsts merged count) (k : ℕ)
     (h : k < zoneCount * count) where
   class-in : k / zoneCount < count
   class-in = omega arith
@@ -176,7 +176,7 @@ module _ {n : ℕ} {m l : List ℕ} (p : HoldsLeaders n m l n) where
 
     -- the moves can be carried over
     pub carry-can : n ≤ maxStates → zoneCount * n ≤ length m → n ≤ length classes → n ≤ length firsts → (merged : List ℕ)
-        → zoneCount * n ≤ length merged → Carriable n m classes firsts merged count
+        → zoneCount * n ≤ length merged → CanCarry n m classes firsts merged count
     unfolding mergedCount
     carry-can few moves classes-room firsts-room merged room = record {
       few = few;

@@ -7,7 +7,7 @@ ghost use Prim.Native.Nat.{_+_, _*_};
 ghost use lib.ListN.{length};
 ghost use Rattle.rules.specs.Bounds.{zoneCount};
 ghost use Rattle.runlength.specs.Sum.{front};
-ghost use Rattle.merge.specs.Numbering.{Numbered, Numberable, CanNumber, carried, Carriable};
+ghost use Rattle.merge.specs.Numbering.{Numbered, Numberable, CanNumber, carried, CanCarry};
 
 // State i gets its class: a new one where it leads, else that of its leader. The number of classes after it.
 fn number_state(
@@ -55,7 +55,7 @@ pub(crate) fn carry(
     count: usize,
     merged: &mut [u16],
 )
-    requires { ⌜ Carriable n (now moves) (now classes) (now firsts) (now merged) count ⌝ }
+    requires { ⌜ CanCarry n (now moves) (now classes) (now firsts) (now merged) count ⌝ }
     ensures { λ r. ⌜ now (merged .exit)
         ≡ front (zoneCount * count) (carried n (now (moves .entry)) (now (classes .entry)) (now (firsts .entry))) (now (merged .entry)) ⌝ }
 {

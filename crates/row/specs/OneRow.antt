@@ -43,7 +43,7 @@ pub record CanRow (src fs ws gs st us : List ℕ) (total n : ℕ) (nx : List ℕ
   pub room : n ≤ length nx
 
 -- after one row: what came into each state, divided once and rounded down; and what came into none
-pub record Rowed (src fs ws gs us : List ℕ) (total n : ℕ) (nx : List ℕ) (p l : ℕ) : Type 0 where
+pub record RowDone (src fs ws gs us : List ℕ) (total n : ℕ) (nx : List ℕ) (p l : ℕ) : Type 0 where
   pub units : (t : ℕ) → t < n → getD nx t 0 ≡ come src fs ws gs (at us) t / weightTotal
   pub pmf : p ≡ (total * weightTotal - sum n (come src fs ws gs (at us))) / weightTotal
   pub survival : l ≡ sum n (λ t. come src fs ws gs (at us) t / weightTotal)
@@ -53,9 +53,9 @@ pub record Rowed (src fs ws gs us : List ℕ) (total n : ℕ) (nx : List ℕ) (p
 pub record CanPoint (src fs ws gs st us : List ℕ) (total n : ℕ) (nx : List ℕ) : Type 0 where
   pub some : 0 < total → CanRow src fs ws gs st us total n nx
 
-pub record Pointed (src fs ws gs us : List ℕ) (total n : ℕ) (nx nx′ : List ℕ) (p l : ℕ) : Type 0 where
+pub record PointDone (src fs ws gs us : List ℕ) (total n : ℕ) (nx nx′ : List ℕ) (p l : ℕ) : Type 0 where
   pub same : length nx′ ≡ length nx
-  pub some : 0 < total → Rowed src fs ws gs us total n nx′ p l
+  pub some : 0 < total → RowDone src fs ws gs us total n nx′ p l
   pub none-pmf : total ≡ 0 → p ≡ 0
   pub none-survival : total ≡ 0 → l ≡ 0
   pub none-written : total ≡ 0 → nx′ ≡ nx

@@ -12,7 +12,7 @@ use Rattle.runlength.specs.Scale.{weightTotal}
 use Rattle.sources.specs.Sources.{come}
 use Rattle.row.specs.Arrivals.{Flows, Arrived}
 use Rattle.row.specs.ArrivalsLaws.{flows-upto}
-use Rattle.row.specs.OneRow.{CanRound, Rounded, Filled, CanFill, CanRow, Rowed, Pointed}
+use Rattle.row.specs.OneRow.{CanRound, Rounded, Filled, CanFill, CanRow, RowDone, PointDone}
 
 pub fill-start : (us src fs ws gs nx : List ℕ) → Filled us src fs ws gs 0 nx 0 0
 fill-start us src fs ws gs nx = record {
@@ -80,7 +80,7 @@ module _ {src fs ws gs st us : List ℕ} {total n : ℕ} {nx : List ℕ} (p : Ca
     pub row-fits : left + (rest + (weightTotal - 1)) / weightTotal ≤ total
     row-fits = omega (arith, c .value, p .mass)
 
-    pub row-done : Rowed src fs ws gs us total n nx′ (total - left - (rest + (weightTotal - 1)) / weightTotal) left
+    pub row-done : RowDone src fs ws gs us total n nx′ (total - left - (rest + (weightTotal - 1)) / weightTotal) left
     row-done = record {
       units = c .units;
       pmf = omega (arith, c .value, p .mass);
@@ -89,7 +89,7 @@ module _ {src fs ws gs st us : List ℕ} {total n : ℕ} {nx : List ℕ} (p : Ca
     }
 
 pub point-some : {src fs ws gs us : List ℕ} {total n : ℕ} {nx nx′ : List ℕ} {a b : ℕ} → (total ≡ 0 → ⊥) → length nx′ ≡ length nx
-    → Rowed src fs ws gs us total n nx′ a b → Pointed src fs ws gs us total n nx nx′ a b
+    → RowDone src fs ws gs us total n nx′ a b → PointDone src fs ws gs us total n nx nx′ a b
 point-some e x r = record {
   same = x;
   some = λ o. r;

@@ -1,5 +1,5 @@
 // One row of the table, in one pass over the states: it moves the units and sums what is left.
-ghost use Rattle.row.specs.OneRow.{CanRound, Rounded, CanFill, Filled, CanRow, Rowed, CanPoint, Pointed};
+ghost use Rattle.row.specs.OneRow.{CanRound, Rounded, CanFill, Filled, CanRow, RowDone, CanPoint, PointDone};
 use crate::inflow::Inflow;
 use crate::inflow::arrive;
 use crate::inflow::weigh;
@@ -75,7 +75,7 @@ fn row(
     next: &mut [u64],
 ) -> Point
     requires { ⌜ CanRow (now sources) (now firsts) (now shares) (now groups) (now stops) (now units) total n (now next) ⌝ }
-    ensures { λ r. ⌜ Rowed (now (sources .entry)) (now (firsts .entry)) (now (shares .entry)) (now (groups .entry)) (now (units .entry)) total n (now (next .exit)) (r .pmf) (r .survival) ⌝ }
+    ensures { λ r. ⌜ RowDone (now (sources .entry)) (now (firsts .entry)) (now (shares .entry)) (now (groups .entry)) (now (units .entry)) total n (now (next .exit)) (r .pmf) (r .survival) ⌝ }
 {
     let none = Moved { left: 0, rest: 0 };
     let mut t = index(stops[0]);
@@ -118,7 +118,7 @@ pub fn next_point(
     next: &mut [u64],
 ) -> Point
     requires { ⌜ CanPoint (now sources) (now firsts) (now shares) (now groups) (now stops) (now units) total n (now next) ⌝ }
-    ensures { λ r. ⌜ Pointed (now (sources .entry)) (now (firsts .entry)) (now (shares .entry)) (now (groups .entry)) (now (units .entry)) total n (now (next .entry)) (now (next .exit)) (r .pmf) (r .survival) ⌝ }
+    ensures { λ r. ⌜ PointDone (now (sources .entry)) (now (firsts .entry)) (now (shares .entry)) (now (groups .entry)) (now (units .entry)) total n (now (next .entry)) (now (next .exit)) (r .pmf) (r .survival) ⌝ }
 {
     if total == 0 {
         return Point {

@@ -22,8 +22,8 @@ use Rattle.sources.specs.MoreLaws.{getD-zeros}
 use Rattle.sources.specs.Sources.{come, CanListSources, Listed}
 use Rattle.rows.specs.Rows.{chain, CanRun, Ran}
 use Rattle.row.specs.Arrivals.{Flows}
-use Rattle.row.specs.OneRow.{CanRow, Rowed, CanPoint, Pointed}
-use Rattle.rows.specs.Running.{Running, CanMean, Meant, Put}
+use Rattle.row.specs.OneRow.{CanRow, RowDone, CanPoint, PointDone}
+use Rattle.rows.specs.Running.{Running, CanMean, MeanDone, Put}
 
 -- what comes in goes by the units of the states alone
 inflow-cong : (c : Chain) (u v : ℕ → ℕ) → ((s : ℕ) → s < c .size → u s ≡ v s) → (t : ℕ) → inflow c u t ≡ inflow c v t
@@ -138,7 +138,7 @@ module _ {m : List ℕ} {n : ℕ} {w : List ℕ} {h : ℕ} {ps ss : List ℕ} (p
         room = omega (arith, p .moves .most);
       }
 
-      module _ {nx : List ℕ} {a b : ℕ} (r : Rowed src fs ws gs us last n nx a b) where
+      module _ {nx : List ℕ} {a b : ℕ} (r : RowDone src fs ws gs us last n nx a b) where
         next : (t : ℕ) → t < n → come src fs ws gs (at us) t / weightTotal ≡ units (chain m n w) (suc k) t
         unfolding units
         next t l = ap (λ (x : ℕ). x / weightTotal) (comes t l)
@@ -154,7 +154,7 @@ module _ {m : List ℕ} {n : ℕ} {w : List ℕ} {h : ℕ} {ps ss : List ℕ} (p
     pub run-point : {nx : List ℕ} → length nx ≡ maxStates → CanPoint src fs ws gs st us last n nx
     run-point x = record { some = λ o. run-row o x }
 
-    module _ {nx₀ nx : List ℕ} {a b : ℕ} (r : Pointed src fs ws gs us last n nx₀ nx a b) where
+    module _ {nx₀ nx : List ℕ} {a b : ℕ} (r : PointDone src fs ws gs us last n nx₀ nx a b) where
       next-pmf : a ≡ pmf (chain m n w) (suc k)
       next-pmf = elim (ℕ-discrete last 0) [
         | yes e ↦ r .none-pmf e ∙ sym (none-pmf k (sym (s .survival-last) ∙ e))
@@ -183,7 +183,7 @@ module _ {m : List ℕ} {n : ℕ} {w : List ℕ} {h : ℕ} {ps ss : List ℕ} (p
       run-mean l = record { fits = omega (arith, s .mean-most, p .rows); part = s .part; most = s .last-most; next-most = next-most }
 
       pub run-more : {ps″ ss″ : List ℕ} {last′ whole′ fraction′ : ℕ} → k < h → length nx₀ ≡ maxStates → Put a b k ps′ ss′ ps″ ss″
-          → Meant last whole fraction b last′ whole′ fraction′ → Running m n w (k + 1) ps ss nx ps″ ss″ last′ whole′ fraction′
+          → MeanDone last whole fraction b last′ whole′ fraction′ → Running m n w (k + 1) ps ss nx ps″ ss″ last′ whole′ fraction′
       unfolding restrictedMean
       run-more l x d q = rw (d .pmf, d .survival, q .left) (record {
         same = r .same ∙ x;

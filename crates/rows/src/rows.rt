@@ -2,7 +2,7 @@
 ghost use Prim.Native.Nat.{_<_};
 ghost use lib.ListN.{length};
 ghost use Rattle.rows.specs.Rows.{CanRun, Ran};
-ghost use Rattle.rows.specs.Running.{CanMean, Meant, Put};
+ghost use Rattle.rows.specs.Running.{CanMean, MeanDone, Put};
 use row::Point;
 use row::next_point;
 use rules::RuleList;
@@ -20,7 +20,7 @@ pub struct Totals {
 // The totals after one row more, which leaves `survival`: the one before is added to the restricted mean.
 fn totals_with(before: Totals, survival: u64) -> Totals
     requires { ⌜ CanMean (before .survival) (before .«mean_whole») (before .«mean_fraction») survival ⌝ }
-    ensures { λ r. ⌜ Meant (before .survival) (before .«mean_whole») (before .«mean_fraction») survival (r .survival) (r .«mean_whole») (r .«mean_fraction») ⌝ }
+    ensures { λ r. ⌜ MeanDone (before .survival) (before .«mean_whole») (before .«mean_fraction») survival (r .survival) (r .«mean_whole») (r .«mean_fraction») ⌝ }
 {
     let sum = before.mean_fraction + before.survival;
     Totals {

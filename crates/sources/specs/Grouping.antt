@@ -77,7 +77,7 @@ pub record Grown (src fs ws : List ℕ) (n g : ℕ) (src′ fs′ ws′ : List �
   pub begin : getD fs′ 0 0 ≡ getD fs 0 0
   pub kept : (k : ℕ) → k ≤ g → (u : ℕ → ℕ) → weighed src′ fs′ ws′ u k ≡ weighed src fs ws u k
 
-pub record Zoned (m : List ℕ) (n z a t : ℕ) (src fs ws : List ℕ) (g : ℕ) (src′ fs′ ws′ : List ℕ) (r : ℕ) : Type 0 where
+pub record ZoneGrouped (m : List ℕ) (n z a t : ℕ) (src fs ws : List ℕ) (g : ℕ) (src′ fs′ ws′ : List ℕ) (r : ℕ) : Type 0 where
   pub grown : Grown src fs ws n g src′ fs′ ws′ r
   pub few : r ≤ g + 1
   pub sums : (u : ℕ → ℕ) → weighed src′ fs′ ws′ u r ≡ weighed src fs ws u g + a * arrived m u t z n

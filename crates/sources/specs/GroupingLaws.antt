@@ -12,7 +12,7 @@ use Rattle.runlength.specs.SumLaws.{sum-zero, sum-more, sum-cong, sum-upto}
 use Rattle.runlength.specs.Scale.{weightTotal}
 use Rattle.sources.specs.MoreLaws.{set-below, ordered-set}
 use Rattle.sources.specs.Sources.{gathered, weighed, Groups}
-use Rattle.sources.specs.Grouping.{one, arrived, into, counted, Kept, CanCollect, Collected, CanZone, Grown, Zoned, CanGroupState, GroupingState}
+use Rattle.sources.specs.Grouping.{one, arrived, into, counted, Kept, CanCollect, Collected, CanZone, Grown, ZoneGrouped, CanGroupState, GroupingState}
 use Rattle.sources.specs.SourcesLaws.{gathered-kept, ones, kept-set, arrived-most}
 use Rattle.sources.specs.MarksLaws.{unmarked}
 
@@ -54,7 +54,7 @@ grown-then x y = record {
 
 module _ {m : List ℕ} {n z a t : ℕ} {ms src fs ws : List ℕ} {g : ℕ} (p : CanZone m n z a t ms src fs ws g) where
   -- no state leads here
-  pub zone-unmarked : {q : ℕ} → q ≡ t → getD ms (zoneCount * q + z) 0 ≡ 0 → Zoned m n z a t src fs ws g src fs ws g
+  pub zone-unmarked : {q : ℕ} → q ≡ t → getD ms (zoneCount * q + z) 0 ≡ 0 → ZoneGrouped m n z a t src fs ws g src fs ws g
   zone-unmarked {q} y x = record {
     grown = grown-none (p .groups);
     few = omega arith;
@@ -63,7 +63,7 @@ module _ {m : List ℕ} {n z a t : ℕ} {ms src fs ws : List ℕ} {g : ℕ} (p :
   }
 
   -- a zone of no weight
-  pub zone-light : a ≡ 0 → Zoned m n z a t src fs ws g src fs ws g
+  pub zone-light : a ≡ 0 → ZoneGrouped m n z a t src fs ws g src fs ws g
   zone-light x = record {
     grown = grown-none (p .groups);
     few = omega arith;
@@ -109,7 +109,7 @@ module _ {m : List ℕ} {n z a t : ℕ} {ms src fs ws : List ℕ} {g : ℕ} (p :
     more-kept = weighed-kept (p .groups) (c .kept) (kept-set (g + 1) fs (g + 1) e (omega arith)) (kept-set g ws g a (omega arith))
 
     -- one group more
-    more-at : Zoned m n z a t src fs ws g src′ (set fs (g + 1) e) (set ws g a) (g + 1)
+    more-at : ZoneGrouped m n z a t src fs ws g src′ (set fs (g + 1) e) (set ws g a) (g + 1)
     more-at = record {
       grown = record {
         groups = record {
@@ -139,7 +139,7 @@ module _ {m : List ℕ} {n z a t : ℕ} {ms src fs ws : List ℕ} {g : ℕ} (p :
     pub zone-size : e ≤ zoneCount * maxStates
     zone-size = size-at (rw x at c)
 
-    pub zone-more : {v : ℕ} → v ≡ e → Zoned m n z a t src fs ws g src′ (set fs (g + 1) v) (set ws g a) (g + 1)
+    pub zone-more : {v : ℕ} → v ≡ e → ZoneGrouped m n z a t src fs ws g src′ (set fs (g + 1) v) (set ws g a) (g + 1)
     zone-more y = rw y (more-at (rw x at c))
 
 module _ (m : List ℕ) (n t : ℕ) where
@@ -183,7 +183,7 @@ module _ {m : List ℕ} {n : ℕ} {w : List ℕ} {t : ℕ} {ms src₀ fs₀ ws�
       size = omega (arith, c .grown .same-src, p .size);
     }
 
-    pub state-more : {src′ fs′ ws′ : List ℕ} {r : ℕ} → Zoned m n z (getD w z 0) t src fs ws g src′ fs′ ws′ r
+    pub state-more : {src′ fs′ ws′ : List ℕ} {r : ℕ} → ZoneGrouped m n z (getD w z 0) t src fs ws g src′ fs′ ws′ r
         → GroupingState m n w t (z + 1) src₀ fs₀ ws₀ g₀ src′ fs′ ws′ r
     state-more q = record {
       grown = grown-then (c .grown) (q .grown);

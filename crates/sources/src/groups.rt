@@ -1,5 +1,5 @@
 // The groups of each state: for each zone that leads there the states that it leads from, with the zone's weight as their share.
-ghost use Rattle.sources.specs.Grouping.{CanTake, Taken, CanCollect, Collected, CanZone, Zoned, CanGroupState, GroupedState, CanList, Listing};
+ghost use Rattle.sources.specs.Grouping.{CanTake, Taken, CanCollect, Collected, CanZone, ZoneGrouped, CanGroupState, GroupedState, CanList, Listing};
 use crate::index;
 use crate::marks::mark;
 use crate::short;
@@ -46,7 +46,7 @@ fn group_zone(
     g: usize,
 ) -> usize
     requires { ⌜ CanZone (now moves) n z weight t (now marks) (now sources) (now firsts) (now shares) g ⌝ }
-    ensures { λ r. ⌜ Zoned (now (moves .entry)) n z weight t (now (sources .entry)) (now (firsts .entry)) (now (shares .entry)) g (now (sources .exit)) (now (firsts .exit)) (now (shares .exit)) r ⌝ }
+    ensures { λ r. ⌜ ZoneGrouped (now (moves .entry)) n z weight t (now (sources .entry)) (now (firsts .entry)) (now (shares .entry)) g (now (sources .exit)) (now (firsts .exit)) (now (shares .exit)) r ⌝ }
 {
     if weight == 0 {
         return g;

@@ -1,6 +1,6 @@
 -- The table program's lines: definitions and laws.
 pub mod RowLine
-pub mod Rowed
+pub mod RowsWritten
 pub mod RowLineLaws
 pub mod PercentLine
 pub mod PercentLineLaws

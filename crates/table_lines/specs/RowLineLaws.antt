@@ -10,7 +10,7 @@ use Rattle.write.specs.WroteLaws.{wrote-nothing, wrote-length, then}
 use Rattle.runlength.specs.Chain.{cdfOf}
 use Rattle.runlength.specs.CdfLaws.{cdf-zero, cdf-more, cdf-upto}
 use Rattle.table_lines.specs.RowLine.{rowLine, rowRoom, tableRows}
-use Rattle.table_lines.specs.Rowed.{Rowed}
+use Rattle.table_lines.specs.RowsWritten.{RowsWritten}
 
 rows-none : (pmf survival : List ℕ) → tableRows 0 pmf survival ≡ []
 unfolding tableRows
@@ -23,7 +23,7 @@ unfolding tableRows
 rows-more n pmf survival = rw add-one
 
 module _ {a : List ℕ} {at h : ℕ} {pmf survival : List ℕ} where
-  pub rowed-start : at ≤ length a → Rowed a at h pmf survival a at 0 0
+  pub rowed-start : at ≤ length a → RowsWritten a at h pmf survival a at 0 0
   rowed-start l =
       record {
         upto = omega arith;
@@ -34,13 +34,13 @@ module _ {a : List ℕ} {at h : ℕ} {pmf survival : List ℕ} where
       }
 
   -- one chance more is at most the sum of all
-  pub rowed-sum : {b : List ℕ} {e cdf n : ℕ} → Rowed a at h pmf survival b e cdf n → n < h → cdf + getD pmf n 0 ≤ cdfOf pmf h
+  pub rowed-sum : {b : List ℕ} {e cdf n : ℕ} → RowsWritten a at h pmf survival b e cdf n → n < h → cdf + getD pmf n 0 ≤ cdfOf pmf h
   rowed-sum {b} {e} {cdf} {n} i l = omega (arith, cdf-more pmf n, cdf-upto pmf (n + 1) h (omega arith))
 
-  pub rowed-more : {b c : List ℕ} {e cdf n r : ℕ} → Rowed a at h pmf survival b e cdf n → n < h
+  pub rowed-more : {b c : List ℕ} {e cdf n r : ℕ} → RowsWritten a at h pmf survival b e cdf n → n < h
       → Wrote b e c r (rowLine (n + 1) (getD pmf n 0) (cdf + getD pmf n 0) (getD survival n 0))
       → r ≤ e + rowRoom
-      → Rowed a at h pmf survival c r (cdf + getD pmf n 0) (n + 1)
+      → RowsWritten a at h pmf survival c r (cdf + getD pmf n 0) (n + 1)
   rowed-more {b} {c} {e} {cdf} {n} {r} i l w m =
       let s : cdf + getD pmf n 0 ≡ cdfOf pmf (n + 1) = omega (arith, cdf-more pmf n) in
       record {
@@ -51,5 +51,5 @@ module _ {a : List ℕ} {at h : ℕ} {pmf survival : List ℕ} where
         wrote = rw (rows-more n pmf survival) (then (i .wrote) (rw s at w));
       }
 
-  pub rowed-done : {b : List ℕ} {e cdf n : ℕ} → Rowed a at h pmf survival b e cdf n → h ≤ n → Wrote a at b e (tableRows h pmf survival)
+  pub rowed-done : {b : List ℕ} {e cdf n : ℕ} → RowsWritten a at h pmf survival b e cdf n → h ≤ n → Wrote a at b e (tableRows h pmf survival)
   rowed-done {b} {e} {cdf} {n} i l = let q : n ≡ h = omega arith in rw q at (i .wrote)

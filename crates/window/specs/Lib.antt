@@ -6,7 +6,7 @@ pub mod Settled
 pub mod ForgetLaws
 pub mod StateLaws
 pub mod SettledLaws
-pub mod Givable
+pub mod CanStand
 pub mod ValidLaws
 pub mod ReferenceChart
 pub mod MoveLaws

@@ -15,7 +15,7 @@ use Rattle.rules.specs.Check.{noRule}
 use Rattle.window.specs.Window.{maxAge, windowBase, hitOfAge, hitsUpTo, remembered, validWindow}
 use Rattle.window.specs.State.{validState}
 use Rattle.window.specs.SettledLaws.{both}
-use Rattle.window.specs.Givable.{Kept, Givable, windowAt, GivableState}
+use Rattle.window.specs.CanStand.{Kept, WindowCanStand, windowAt, StateCanStand}
 use Rattle.window.specs.WindowLaws.{le-or-lt, live-le, remembered-age}
 
 -- ---- numbers with the same digits are equal
@@ -99,11 +99,11 @@ module _ (count w : ℕ) where
 -- ---- the three tests together
 
 module _ (count : ℕ) (r : Rule) (w : ℕ) (small : w < windowBase) where
-  givable : validWindow count r w ≡ true → Givable count r w
-  givable e = go (leb (r .k) (hitsUpTo maxAge w)) refl (eqb (remembered r w) w) refl (eqb (w / 2 ^ min count maxAge) 0) refl e
+  stands : validWindow count r w ≡ true → WindowCanStand count r w
+  stands e = go (leb (r .k) (hitsUpTo maxAge w)) refl (eqb (remembered r w) w) refl (eqb (w / 2 ^ min count maxAge) 0) refl e
     where
       go : (x : Bool) → leb (r .k) (hitsUpTo maxAge w) ≡ x → (y : Bool) → eqb (remembered r w) w ≡ y → (z : Bool) → eqb (w / 2 ^ min count maxAge) 0 ≡ z
-          → cond x false (cond y z false) ≡ true → Givable count r w
+          → cond x false (cond y z false) ≡ true → WindowCanStand count r w
       go false ex true ey true ez q =
           record {
             few = leb-false (r .k) (hitsUpTo maxAge w) ex;
@@ -114,7 +114,7 @@ module _ (count : ℕ) (r : Rule) (w : ℕ) (small : w < windowBase) where
       go false ex false ey z ez q = let n : _≡_ {A = ℕ} 0 1 = cc in absurd (omega arith)
       go false ex true ey false ez q = let n : _≡_ {A = ℕ} 0 1 = cc in absurd (omega arith)
 
-  valid : Givable count r w → validWindow count r w ≡ true
+  valid : WindowCanStand count r w → validWindow count r w ≡ true
   valid g = rw (
     lt-leb (r .k) (hitsUpTo maxAge w) (g .few),
     eq-eqb (remembered r w) w (kept-all r w small (g .kept)),
@@ -122,8 +122,8 @@ module _ (count : ℕ) (r : Rule) (w : ℕ) (small : w < windowBase) where
   )
 
   -- a window passes exactly when document 01's conditions for 5 do not hold of it
-  pub valid-exactly : (validWindow count r w ≡ true) ↔ Givable count r w
-  valid-exactly = (givable, valid)
+  pub valid-exactly : (validWindow count r w ≡ true) ↔ WindowCanStand count r w
+  valid-exactly = (stands, valid)
 
 -- ---- a whole state, rule by rule
 
@@ -158,19 +158,19 @@ no-hit w h f = same-digits maxAge w 0 h (omega arith) none
         let e : suc i - 1 ≡ i = omega arith in
         ap (λ (t : ℕ). w / 2 ^ t % 2) (sym e) ∙ f (suc i) (omega arith) ∙ sym (ap (λ (t : ℕ). t % 2) (zero-div (2 ^ i)))
 
-same-window : {count : ℕ} {r : Rule} {v w : ℕ} → v ≡ w → Givable count r w → Givable count r v
+same-window : {count : ℕ} {r : Rule} {v w : ℕ} → v ≡ w → WindowCanStand count r w → WindowCanStand count r v
 same-window e g = rw e g
 
 module _ (count : ℕ) where
-  windows-givable : (rs : List Rule) (s : ℕ) → validState count rs s ≡ true → (i : ℕ) → i < length rs → Givable count (getD rs i noRule) (windowAt i s)
+  windows-stand : (rs : List Rule) (s : ℕ) → validState count rs s ≡ true → (i : ℕ) → i < length rs → WindowCanStand count (getD rs i noRule) (windowAt i s)
   unfolding validState
-  windows-givable [] s e i h = absurd (omega arith)
-  windows-givable (r ∷ rs) s e zero h =
+  windows-stand [] s e i h = absurd (omega arith)
+  windows-stand (r ∷ rs) s e zero h =
       let b = both (validWindow count r (s % windowBase)) (validState count rs (s / windowBase)) e in
-      same-window (window-first s) (givable count r (s % windowBase) (omega arith) (b .0))
-  windows-givable (r ∷ rs) s e (suc i) h =
+      same-window (window-first s) (stands count r (s % windowBase) (omega arith) (b .0))
+  windows-stand (r ∷ rs) s e (suc i) h =
       let b = both (validWindow count r (s % windowBase)) (validState count rs (s / windowBase)) e in
-      same-window (window-later i s) (windows-givable rs (s / windowBase) (b .1) i (omega arith))
+      same-window (window-later i s) (windows-stand rs (s / windowBase) (b .1) i (omega arith))
 
   windows-beyond : (rs : List Rule) (s : ℕ) → validState count rs s ≡ true → (i : ℕ) → length rs ≤ i → windowAt i s ≡ 0
   unfolding validState
@@ -180,7 +180,7 @@ module _ (count : ℕ) where
       let b = both (validWindow count r (s % windowBase)) (validState count rs (s / windowBase)) e in
       window-later i s ∙ windows-beyond rs (s / windowBase) (b .1) i (omega arith)
 
-  windows-valid : (rs : List Rule) (s : ℕ) → ((i : ℕ) → i < length rs → Givable count (getD rs i noRule) (windowAt i s))
+  windows-valid : (rs : List Rule) (s : ℕ) → ((i : ℕ) → i < length rs → WindowCanStand count (getD rs i noRule) (windowAt i s))
       → ((i : ℕ) → length rs ≤ i → windowAt i s ≡ 0) → validState count rs s ≡ true
   unfolding validState
   windows-valid [] s g f = eq-eqb s 0 (all-empty s s (below-power s) (λ i. f i (omega arith)))
@@ -192,12 +192,12 @@ module _ (count : ℕ) where
       rw (first, later)
 
   -- A state passes exactly when none of the four conditions of refusal 5 holds of it.
-  pub state-exactly : (rs : List Rule) (s : ℕ) → (validState count rs s ≡ true) ↔ GivableState count rs s
+  pub state-exactly : (rs : List Rule) (s : ℕ) → (validState count rs s ≡ true) ↔ StateCanStand count rs s
   state-exactly rs s = (to, from)
     where
-      to : validState count rs s ≡ true → GivableState count rs s
+      to : validState count rs s ≡ true → StateCanStand count rs s
       to e =
-          let g = windows-givable rs s e in
+          let g = windows-stand rs s e in
           record {
             few = λ i h. g i h .few;
             kept = λ i a h p q. g i h .kept a p q;
@@ -205,7 +205,7 @@ module _ (count : ℕ) where
             none-beyond = λ i a h p. ap (hitOfAge a) (windows-beyond rs s e i h) ∙ ap (λ (t : ℕ). t % 2) (zero-div (2 ^ (a - 1)));
           }
 
-      from : GivableState count rs s → validState count rs s ≡ true
+      from : StateCanStand count rs s → validState count rs s ≡ true
       from t =
           windows-valid rs s
           (λ i h. record { few = t .few i h; kept = λ a p q. t .kept i a h p q; counted = λ a p q. t .counted i a h p q })

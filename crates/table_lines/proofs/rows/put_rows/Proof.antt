@@ -1,14 +1,14 @@
--- `print::put_rows` meets its contract. The invariant is `Rowed`: the rows up to i are written, and `cdf` is the sum of their chances.
+-- `print::put_rows` meets its contract. The invariant is `RowsWritten`: the rows up to i are written, and `cdf` is the sum of their chances.
 use borrow.Author.Needs.{needs}
 use Prim.Native.Nat.{_-_}
 use native.Mathlib.Omega.{arith}
-use Rattle.table_lines.specs.Rowed.{Rowed}
+use Rattle.table_lines.specs.RowsWritten.{RowsWritten}
 use Rattle.table_lines.specs.RowLineLaws.{rowed-start, rowed-sum, rowed-more, rowed-done}
 use Rattle.table_lines.proofs.rows.put_rows.Statement.{statement}
 use Rattle.table_lines.proofs.rows.put_rows.Tie as tie
 
 abbrev Inv-loop : tie.InvT-loop
-Inv-loop out₀ at h pmf survival e₀ cdf₀ i₀ out e cdf i = Rowed out₀ at h pmf survival out e cdf i
+Inv-loop out₀ at h pmf survival e₀ cdf₀ i₀ out e cdf i = RowsWritten out₀ at h pmf survival out e cdf i
 
 abbrev μ-loop : tie.MeasureT-loop
 μ-loop out₀ at h pmf survival e₀ cdf₀ i₀ out e cdf i = h - i

@@ -1,14 +1,14 @@
--- `print::put_fields` meets its contract. The invariant is `Fielded`: the fields of the first i numbers are written.
+-- `print::put_fields` meets its contract. The invariant is `FieldsWritten`: the fields of the first i numbers are written.
 use borrow.Author.Needs.{needs}
 use Prim.Native.Nat.{_-_}
 use native.Mathlib.Omega.{arith}
 use lib.ListN.{length}
-use Rattle.weights_report.specs.Fielded.{Fielded, fielded-start, fielded-more, fielded-done}
+use Rattle.weights_report.specs.FieldsWritten.{FieldsWritten, fielded-start, fielded-more, fielded-done}
 use Rattle.weights_report.proofs.weight_line.put_fields.Statement.{statement}
 use Rattle.weights_report.proofs.weight_line.put_fields.Tie as tie
 
 abbrev Inv-loop : tie.InvT-loop
-Inv-loop out₀ at numbers e₀ i₀ out e i = Fielded out₀ at numbers out e i
+Inv-loop out₀ at numbers e₀ i₀ out e i = FieldsWritten out₀ at numbers out e i
 
 abbrev μ-loop : tie.MeasureT-loop
 μ-loop out₀ at numbers e₀ i₀ out e i = length numbers - i

@@ -1,4 +1,4 @@
--- TO BELIEVE: what can be given to a step, in the words of refusal 5: none of its four conditions holds. Definitions.
+-- TO BELIEVE: which state can stand with these rules and this count, in the words of refusal 5: none of its four conditions holds. Definitions.
 use Prim.Native.Nat.{ℕ, _+_, _-_, _/_, _%_, _^_, _≤_, _<_}
 use mathlib.Core.Path.{_≡_}
 use mathlib.Core.List.{List}
@@ -13,7 +13,7 @@ pub record Kept (r : Rule) (w a : ℕ) : Type 0 where
   pub needed : r .k ≤ hitsUpTo a w + (r .m - a)
 
 -- one rule's window, with so many points counted
-pub record Givable (count : ℕ) (r : Rule) (w : ℕ) : Type 0 where
+pub record WindowCanStand (count : ℕ) (r : Rule) (w : ℕ) : Type 0 where
   pub few : hitsUpTo maxAge w < r .k
   pub kept : (a : ℕ) → 1 ≤ a → hitOfAge a w ≡ 1 → Kept r w a
   pub counted : (a : ℕ) → 1 ≤ a → hitOfAge a w ≡ 1 → a ≤ count
@@ -24,7 +24,7 @@ windowAt i s = s / windowBase ^ i % windowBase
 
 -- a whole state: no window with k or more hits; no hit that should be forgotten; no hit older than the points counted; no hit in a window
 -- beyond the rules
-pub record GivableState (count : ℕ) (rs : List Rule) (s : ℕ) : Type 0 where
+pub record StateCanStand (count : ℕ) (rs : List Rule) (s : ℕ) : Type 0 where
   pub few : (i : ℕ) → i < length rs → hitsUpTo maxAge (windowAt i s) < getD rs i noRule .k
   pub kept : (i a : ℕ) → i < length rs → 1 ≤ a → hitOfAge a (windowAt i s) ≡ 1 → Kept (getD rs i noRule) (windowAt i s) a
   pub counted : (i a : ℕ) → i < length rs → 1 ≤ a → hitOfAge a (windowAt i s) ≡ 1 → a ≤ count

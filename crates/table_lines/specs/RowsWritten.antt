@@ -8,7 +8,7 @@ use Rattle.runlength.specs.Chain.{cdfOf}
 use Rattle.table_lines.specs.RowLine.{rowRoom, tableRows}
 
 -- n rows of h stand in the buffer from `at` on, up to e, and `cdf` is the sum of their chances
-pub record Rowed (before : List ℕ) (at h : ℕ) (pmf survival after : List ℕ) (e cdf n : ℕ) : Type 0 where
+pub record RowsWritten (before : List ℕ) (at h : ℕ) (pmf survival after : List ℕ) (e cdf n : ℕ) : Type 0 where
   pub upto : n ≤ h
   pub sum : cdf ≡ cdfOf pmf n
   pub size : length after ≡ length before
