@@ -7,6 +7,9 @@ cd "$(dirname "$0")"
 
 bash scripts/needs.sh rt bc cargo rustc gcc cc g++ c++ --optional gnuplot clang
 
+# must-fail edits are tried as many at once as there are processors, where the caller says nothing
+export RT_JOBS="${RT_JOBS:-$(nproc)}"
+
 log=$(mktemp)
 trap 'rm -f "$log"' EXIT
 
