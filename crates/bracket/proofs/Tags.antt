@@ -3,11 +3,11 @@ use mathlib.Core.Path.{_≡_, refl}
 use mathlib.Core.Option.{none}
 use native.Mathlib.Omega.{arith}
 use denote.Enum.Declared.{tagOf}
-use Rattle.bracket.specs.declared.search.Reached.{Reached}
-use Rattle.bracket.specs.declared.search.Reached.the-variants.{First, Never}
-use Rattle.bracket.specs.Reached.{optionOf}
-use Rattle.bracket.proofs.search.Reached.{the-type}
+use Rattle.bracket.specs.declared.search.Crossing.{Crossing}
+use Rattle.bracket.specs.declared.search.Crossing.the-variants.{First, Never}
+use Rattle.bracket.specs.Crossing.{optionOf}
+use Rattle.bracket.proofs.search.Crossing.{the-type}
 
-pub is-never : (a : Reached) → tagOf the-type a ≡ 1 → optionOf a ≡ none
+pub is-never : (a : Crossing) → tagOf the-type a ≡ 1 → optionOf a ≡ none
 is-never (First n) h = absurd (omega arith)
 is-never Never h = refl

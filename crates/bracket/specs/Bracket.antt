@@ -7,12 +7,13 @@ use lib.Dec.{leb, ltb, eqb}
 use lib.ListN.{length}
 use Rattle.rules.specs.Bounds.{maxStates}
 use Rattle.rules.specs.Refusal.{badListLength, badStateCount, badPercent, badTotal}
-use Rattle.rules.specs.Check.{within}
+use Rattle.rules.specs.declared.Checked.{Checked}
+use Rattle.rules.specs.Check.{within, orElse, unless}
 use Rattle.runlength.specs.Scale.{minHorizon, maxHorizon, unitsPerOne, percentsPerOne}
 use Rattle.runlength.specs.Chain.{cdfOf}
 use Rattle.runlength.specs.Percentile.{least}
-use Rattle.bracket.specs.declared.Place.{Place}
-use Rattle.bracket.specs.declared.Place.the-variants.{At, Between, Open, Beyond}
+use Rattle.bracket.specs.declared.Bracket.{Bracket}
+use Rattle.bracket.specs.declared.Bracket.the-variants.{At, Between, Open, Beyond}
 use Rattle.bracket.specs.declared.BracketAnswer.{BracketAnswer}
 use Rattle.bracket.specs.declared.BracketAnswer.the-variants.{Accepted, Refused}
 use Rattle.bracket.specs.Limits.{minStates, minPercent, maxPercent}
@@ -38,25 +39,28 @@ abbrev pub lowTest : List ℕ → ℕ → ℕ → ℕ → Bool
 lowTest pmf count p = passes (λ n. cdfOf pmf n + n * (count + 1)) p
 
 -- by low and high, of a list of h chances: at n where they are equal, else between; open with no high, beyond h with neither
-unfoldable pub placeBy : Option ℕ → Option ℕ → ℕ → Place
-placeBy none high h = Beyond h
-placeBy (some low) none h = Open low
-placeBy (some low) (some high) h = cond (eqb low high) (At low) (Between low high)
+unfoldable pub bracketBy : Option ℕ → Option ℕ → ℕ → Bracket
+bracketBy none high h = Beyond h
+bracketBy (some low) none h = Open low
+bracketBy (some low) (some high) h = cond (eqb low high) (At low) (Between low high)
 
 -- by the least n, from 1 to the list's length, that pass the two tests
-unfoldable pub percentilePlace : List ℕ → ℕ → ℕ → Place
-percentilePlace pmf count p =
-    placeBy (least (lowTest pmf count p) (length pmf)) (least (highTest pmf p) (length pmf)) (length pmf)
+unfoldable pub percentileBracket : List ℕ → ℕ → ℕ → Bracket
+percentileBracket pmf count p =
+    bracketBy (least (lowTest pmf count p) (length pmf)) (least (highTest pmf p) (length pmf)) (length pmf)
 
--- 12, 13, 14 or 15, the first that applies; else the place
+-- 12, 13, 14 or 15, the first that applies
+abbrev pub bracketCheck : List ℕ → ℕ → ℕ → Checked
+bracketCheck pmf count p =
+    orElse (unless (within minHorizon maxHorizon (length pmf)) badListLength)
+    (orElse (unless (within minStates maxStates count) badStateCount)
+    (orElse (unless (within minPercent maxPercent p) badPercent)
+    (unless (leb (cdfOf pmf (length pmf)) unitsPerOne) badTotal)))
+
+-- the refusal, else the bracket
+abbrev pub bracketAnswer : Checked → Bracket → BracketAnswer
+bracketAnswer Checked.Accepted b = Accepted b
+bracketAnswer (Checked.Refused x) b = Refused x
+
 unfoldable pub bracketOf : List ℕ → ℕ → ℕ → BracketAnswer
-bracketOf pmf count p =
-    cond (within minHorizon maxHorizon (length pmf))
-    (cond (within minStates maxStates count)
-    (cond (within minPercent maxPercent p)
-    (cond (leb (cdfOf pmf (length pmf)) unitsPerOne)
-    (Accepted (percentilePlace pmf count p))
-    (Refused badTotal))
-    (Refused badPercent))
-    (Refused badStateCount))
-    (Refused badListLength)
+bracketOf pmf count p = bracketAnswer (bracketCheck pmf count p) (percentileBracket pmf count p)

@@ -11,52 +11,52 @@ use lib.ListN.{length}
 use borrow.Author.Tests.{le-leb, eq-eqb, ne-eqb}
 use Rattle.runlength.specs.Percentile.{least, Percentile, Contains}
 use Rattle.runlength.specs.PercentileLaws.{least-none, least-percentile, contains-exact}
-use Rattle.bracket.specs.declared.Place.the-variants.{At, Between, Open, Beyond}
+use Rattle.bracket.specs.declared.Bracket.the-variants.{At, Between, Open, Beyond}
 use Rattle.bracket.specs.declared.BracketAnswer.the-variants.{Accepted}
 use Rattle.runlength.specs.Scale.{unitsPerOne, percentsPerOne}
 use Rattle.runlength.specs.Chain.{cdfOf}
-use Rattle.bracket.specs.Bracket.{reaches, passes, highTest, lowTest, placeBy, percentilePlace, bracketOf}
-use Rattle.bracket.specs.Contains.{PlaceContains}
+use Rattle.bracket.specs.Bracket.{reaches, passes, highTest, lowTest, bracketBy, percentileBracket, bracketOf}
+use Rattle.bracket.specs.Contains.{BracketContains}
 use Rattle.bracket.specs.AcceptedBracket as Call
 use Rattle.bracket.specs.RefusedLaws.{answered}
 
--- an accepted call is answered by its place
-pub accepted-bracket : (pmf : List ℕ) (count p : ℕ) → Call.Accepted pmf count p → bracketOf pmf count p ≡ Accepted (percentilePlace pmf count p)
+-- an accepted call is answered by its bracket
+pub accepted-bracket : (pmf : List ℕ) (count p : ℕ) → Call.Accepted pmf count p → bracketOf pmf count p ≡ Accepted (percentileBracket pmf count p)
 accepted-bracket pmf count p a =
     answered pmf count p (a .not-empty) (a .short) (a .some-states) (a .few-states) (a .some-percent) (a .part-percent)
     (le-leb (cdfOf pmf (length pmf)) unitsPerOne (a .total))
 
--- what the two bounds contain, the place that they make contains
-pub place-contains : (test : ℕ → Bool) (h : ℕ) (low high : Option ℕ) → Contains test h low high → PlaceContains test (placeBy low high h)
-unfolding Contains placeBy PlaceContains
-place-contains test h none high c = c
-place-contains test h (some l) none c = c
-place-contains test h (some l) (some u) c = go (eqb l u) (eqb→eq l u)
+-- what the two bounds contain, the bracket that they make contains
+pub by-contains : (test : ℕ → Bool) (h : ℕ) (low high : Option ℕ) → Contains test h low high → BracketContains test (bracketBy low high h)
+unfolding Contains bracketBy BracketContains
+by-contains test h none high c = c
+by-contains test h (some l) none c = c
+by-contains test h (some l) (some u) c = go (eqb l u) (eqb→eq l u)
   where
-    go : (b : Bool) → (T b → l ≡ u) → PlaceContains test (cond b (At l) (Between l u))
+    go : (b : Bool) → (T b → l ≡ u) → BracketContains test (cond b (At l) (Between l u))
     go true e = contains-exact test h l u (e tt) c
     go false e = c
 
--- the place by the two bounds, case by case
+-- the bracket by the two bounds, case by case
 module _ {low : Option ℕ} (high : Option ℕ) (h : ℕ) where
-  pub by-neither : low ≡ none → placeBy low high h ≡ Beyond h
-  unfolding placeBy
-  by-neither p = ap (λ (o : Option ℕ). placeBy o high h) p
+  pub by-neither : low ≡ none → bracketBy low high h ≡ Beyond h
+  unfolding bracketBy
+  by-neither p = ap (λ (o : Option ℕ). bracketBy o high h) p
 
   module _ {l : ℕ} (at-low : low ≡ some l) where
-    pub by-low : high ≡ none → placeBy low high h ≡ Open l
-    unfolding placeBy
-    by-low q = ap₂ (λ (o p : Option ℕ). placeBy o p h) at-low q
+    pub by-low : high ≡ none → bracketBy low high h ≡ Open l
+    unfolding bracketBy
+    by-low q = ap₂ (λ (o p : Option ℕ). bracketBy o p h) at-low q
 
     module _ {u : ℕ} (at-high : high ≡ some u) where
-      by-both : placeBy low high h ≡ cond (eqb l u) (At l) (Between l u)
-      unfolding placeBy
-      by-both = ap₂ (λ (o p : Option ℕ). placeBy o p h) at-low at-high
+      by-both : bracketBy low high h ≡ cond (eqb l u) (At l) (Between l u)
+      unfolding bracketBy
+      by-both = ap₂ (λ (o p : Option ℕ). bracketBy o p h) at-low at-high
 
-      pub by-equal : l ≡ u → placeBy low high h ≡ At l
+      pub by-equal : l ≡ u → bracketBy low high h ≡ At l
       by-equal e = by-both ∙ ap (λ (b : Bool). cond b (At l) (Between l u)) (eq-eqb l u e)
 
-      pub by-unequal : (l ≡ u → ⊥) → placeBy low high h ≡ Between l u
+      pub by-unequal : (l ≡ u → ⊥) → bracketBy low high h ≡ Between l u
       by-unequal e = by-both ∙ ap (λ (b : Bool). cond b (At l) (Between l u)) (ne-eqb l u e)
 
 -- with anything added, what was reached is passed

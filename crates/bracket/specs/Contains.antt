@@ -2,20 +2,20 @@
 use mathlib.Core.Bool.{Bool}
 use Prim.Native.Nat.{ℕ, _≤_, _<_}
 use Rattle.runlength.specs.Percentile.{Percentile}
-use Rattle.bracket.specs.declared.Place.{Place}
-use Rattle.bracket.specs.declared.Place.the-variants.{At, Between, Open, Beyond}
+use Rattle.bracket.specs.declared.Bracket.{Bracket}
+use Rattle.bracket.specs.declared.Bracket.the-variants.{At, Between, Open, Beyond}
 use Rattle.bracket.specs.declared.BracketAnswer.{BracketAnswer}
 use Rattle.bracket.specs.declared.BracketAnswer.the-variants.{Accepted, Refused}
 
--- The place contains the percentile of a test: n (at n), from low to high (between), low or more (open), more than h (beyond). Where
+-- The bracket contains the percentile of a test: n (at n), from low to high (between), low or more (open), more than h (beyond). Where
 -- nothing is reached there is no percentile, and it counts as beyond every number.
-unfoldable pub PlaceContains : (ℕ → Bool) → Place → Type 0
-PlaceContains test (At n) = Percentile test n
-PlaceContains test (Between low high) = (n : ℕ) × Percentile test n × (low ≤ n) × (n ≤ high)
-PlaceContains test (Open low) = (n : ℕ) → Percentile test n → low ≤ n
-PlaceContains test (Beyond h) = (n : ℕ) → Percentile test n → h < n
+unfoldable pub BracketContains : (ℕ → Bool) → Bracket → Type 0
+BracketContains test (At n) = Percentile test n
+BracketContains test (Between low high) = (n : ℕ) × Percentile test n × (low ≤ n) × (n ≤ high)
+BracketContains test (Open low) = (n : ℕ) → Percentile test n → low ≤ n
+BracketContains test (Beyond h) = (n : ℕ) → Percentile test n → h < n
 
--- the bracket is not refused, and its place contains it
+-- the bracket is not refused, and its bracket contains it
 abbrev pub ContainsPercentile : (ℕ → Bool) → BracketAnswer → Type 0
-ContainsPercentile test (Accepted place) = PlaceContains test place
+ContainsPercentile test (Accepted bracket) = BracketContains test bracket
 ContainsPercentile test (Refused x) = ⊥

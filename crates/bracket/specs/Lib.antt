@@ -2,10 +2,9 @@ pub mod Limits
 pub mod Bracket
 pub mod Contains
 pub mod AcceptedBracket
-pub mod Reached
+pub mod Crossing
 pub mod TotalLaws
-pub mod LeastLaws
 pub mod QuotientLaws
-pub mod ReachedLaws
+pub mod CrossingLaws
 pub mod RefusedLaws
 pub mod BracketLaws

@@ -13,7 +13,7 @@ use Rattle.rules.specs.Refusal.{badListLength, badStateCount, badPercent, badTo
 use Rattle.runlength.specs.Scale.{minHorizon, maxHorizon, unitsPerOne}
 use Rattle.bracket.specs.Limits.{minStates, minPercent, maxPercent}
 use Rattle.runlength.specs.Chain.{cdfOf}
-use Rattle.bracket.specs.Bracket.{percentilePlace, bracketOf}
+use Rattle.bracket.specs.Bracket.{percentileBracket, bracketOf}
 
 -- a number in its bounds, below them, above them
 module _ (low high x : ℕ) where
@@ -57,6 +57,6 @@ module _ (pmf : List ℕ) (count p : ℕ) where
 
         -- no refusal applies
         pub answered : leb (cdfOf pmf (length pmf)) unitsPerOne ≡ true
-            → bracketOf pmf count p ≡ Accepted (percentilePlace pmf count p)
+            → bracketOf pmf count p ≡ Accepted (percentileBracket pmf count p)
         unfolding bracketOf
         answered e = rw (length-in, states-in, percent-in, e)

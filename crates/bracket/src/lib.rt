@@ -4,7 +4,7 @@ use rules::RuleList;
 use runlength::MAX_HORIZON;
 use runlength::MIN_HORIZON;
 use runlength::UNITS_PER_ONE;
-use search::Reached;
+use search::Crossing;
 use search::lower;
 use search::upper;
 ghost use mathlib.Core.Path.{_≡_};
@@ -14,14 +14,14 @@ ghost use Rattle.rules.specs.Refusal.{refusal};
 ghost use Rattle.runlength.specs.Scale.{unitsPerOne};
 ghost use Rattle.runlength.specs.Chain.{cdfOf};
 ghost use Rattle.bracket.specs.declared.BracketAnswer.the-variants.{Refused};
-ghost use Rattle.bracket.specs.Bracket.{placeBy, percentilePlace, bracketOf};
+ghost use Rattle.bracket.specs.Bracket.{bracketBy, percentileBracket, bracketOf};
 ghost use Rattle.bracket.specs.AcceptedBracket.{Accepted};
-ghost use Rattle.bracket.specs.Reached.{optionOf};
+ghost use Rattle.bracket.specs.Crossing.{optionOf};
 
 mod search;
 
 // Where the percentile lies: at a number, between two, at one or above, or beyond the list's length.
-pub enum Place {
+pub enum Bracket {
     At(u32),
     Between { low: u32, high: u32 },
     Open(u32),
@@ -29,7 +29,7 @@ pub enum Place {
 }
 
 pub enum BracketAnswer {
-    Accepted(Place),
+    Accepted(Bracket),
     Refused(Refusal),
 }
 
@@ -70,33 +70,33 @@ fn sum_fits(pmf: &[u64]) -> bool
     true
 }
 
-// The place that the two bounds make.
-fn placed(low: Reached, high: Reached, len: u32) -> Place
-    ensures { λ r. ⌜ r ≡ placeBy (optionOf low) (optionOf high) len ⌝ }
+// The bracket that the two bounds make.
+fn bracket_by(low: Crossing, high: Crossing, len: u32) -> Bracket
+    ensures { λ r. ⌜ r ≡ bracketBy (optionOf low) (optionOf high) len ⌝ }
 {
-    let Reached::First(from) = low else {
-        return Place::Beyond(len);
+    let Crossing::First(from) = low else {
+        return Bracket::Beyond(len);
     };
-    let Reached::First(to) = high else {
-        return Place::Open(from);
+    let Crossing::First(to) = high else {
+        return Bracket::Open(from);
     };
     if from == to {
-        return Place::At(from);
+        return Bracket::At(from);
     }
-    Place::Between {
+    Bracket::Between {
         low: from,
         high: to,
     }
 }
 
-// The place of a percentile, where none of the bracket's refusals applies. For the crates of this repository: it has a `requires`.
-pub fn percentile_place(pmf: &[u64], state_count: u32, percent: u32) -> Place
+// The bracket of a percentile, where none of the bracket's refusals applies. For the crates of this repository: it has a `requires`.
+pub fn find_bracket(pmf: &[u64], state_count: u32, percent: u32) -> Bracket
     requires { ⌜ Accepted (now pmf) «state_count» percent ⌝ }
-    ensures { λ r. ⌜ r ≡ percentilePlace (now (pmf .entry)) «state_count» percent ⌝ }
+    ensures { λ r. ⌜ r ≡ percentileBracket (now (pmf .entry)) «state_count» percent ⌝ }
 {
     let low = lower(pmf, state_count, percent);
     let high = upper(pmf, percent);
-    placed(low, high, pmf.len() as u32)
+    bracket_by(low, high, pmf.len() as u32)
 }
 
 // The bracket of a percentile by the table's chances and number of states: refused by 12, 13, 14 or 15, the first that applies.
@@ -124,5 +124,5 @@ pub fn percentile_bracket(pmf: &[u64], state_count: u32, percent: u32) -> Bracke
     if !sum_fits(pmf) {
         return refused(Refusal::TOTAL);
     }
-    BracketAnswer::Accepted(percentile_place(pmf, state_count, percent))
+    BracketAnswer::Accepted(find_bracket(pmf, state_count, percent))
 }

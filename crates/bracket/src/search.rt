@@ -9,10 +9,10 @@ ghost use Rattle.runlength.specs.Scale.{unitsPerOne, percentsPerOne};
 ghost use Rattle.runlength.specs.Percentile.{least};
 ghost use Rattle.bracket.specs.Limits.{maxPercent};
 ghost use Rattle.bracket.specs.Bracket.{lowTest, highTest};
-ghost use Rattle.bracket.specs.Reached.{optionOf, reachTest, Summable};
+ghost use Rattle.bracket.specs.Crossing.{optionOf, reachTest, Summable};
 
 // What a search for the least number found.
-pub(crate) enum Reached {
+pub(crate) enum Crossing {
     First(u32),
     Never,
 }
@@ -28,7 +28,7 @@ fn hundredth(percent: u32, more: u64) -> u64
 }
 
 // The least n at which the first n chances, with `slack` added for each, sum to `goal` or more.
-fn first_reaching(pmf: &[u64], slack: u64, goal: u64) -> Reached
+fn first_reaching(pmf: &[u64], slack: u64, goal: u64) -> Crossing
     requires { ⌜ Summable (now pmf) × (slack ≤ maxStates + 1) ⌝ }
     ensures { λ r. ⌜ optionOf r ≡ least (reachTest (now (pmf .entry)) slack goal) (length (now (pmf .entry))) ⌝ }
 {
@@ -38,15 +38,15 @@ fn first_reaching(pmf: &[u64], slack: u64, goal: u64) -> Reached
         sum += pmf[n] + slack;
         n += 1;
         if sum >= goal {
-            return Reached::First(n as u32);
+            return Crossing::First(n as u32);
         }
     }
-    Reached::Never
+    Crossing::Never
 }
 
 // The lower bound: the least n with 100 × (sum + n × (state_count + 1)) over percent × 2^60.
 // 100 × x is over a exactly where x is at least the whole part of (a + 100) / 100.
-pub(crate) fn lower(pmf: &[u64], state_count: u32, percent: u32) -> Reached
+pub(crate) fn lower(pmf: &[u64], state_count: u32, percent: u32) -> Crossing
     requires { ⌜ Summable (now pmf) × («state_count» ≤ maxStates) × (percent ≤ maxPercent) ⌝ }
     ensures { λ r. ⌜ optionOf r ≡ least (lowTest (now (pmf .entry)) «state_count» percent) (length (now (pmf .entry))) ⌝ }
 {
@@ -57,7 +57,7 @@ pub(crate) fn lower(pmf: &[u64], state_count: u32, percent: u32) -> Reached
 
 // The upper bound: the least n with 100 × sum at least percent × 2^60.
 // 100 × x is at least a exactly where x is at least the whole part of (a + 99) / 100.
-pub(crate) fn upper(pmf: &[u64], percent: u32) -> Reached
+pub(crate) fn upper(pmf: &[u64], percent: u32) -> Crossing
     requires { ⌜ Summable (now pmf) × (percent ≤ maxPercent) ⌝ }
     ensures { λ r. ⌜ optionOf r ≡ least (highTest (now (pmf .entry)) percent) (length (now (pmf .entry))) ⌝ }
 {

@@ -10,25 +10,31 @@ use Rattle.batch.specs.declared.Batch.{Batch}
 use Rattle.batch.specs.Batch.{batchOf}
 use Rattle.codes.specs.Codes.{codeOf}
 use Rattle.capi.specs.MonitorCall.{stateAs, pointsAs}
-use Rattle.capi.specs.BatchCall.{batchCode, batchAs, BatchCall}
+use Rattle.capi.specs.BatchCall.{batchChecked, batchAs, BatchCall}
+use Rattle.codes.specs.Codes.{checkCode, codeOf}
 
-module _ (b : Batch) (s p a : List ℕ) (r : ℕ) (code : r ≡ batchCode b) where
+module _ (b : Batch) (s p a : List ℕ) (r : ℕ) (code : r ≡ checkCode (batchChecked b)) where
   pub batch-refused : (r ≡ 0 → ⊥) → BatchCall b s p a s p a r
   batch-refused n =
-      let t = ne-eqb (batchCode b) 0 (λ z. n (code ∙ z)) in
+      let t = ne-eqb (checkCode (batchChecked b)) 0 (λ z. n (code ∙ z)) in
       record { code = code; state = rw t; points = rw t; answer = rw t }
 
   pub batch-taken : r ≡ 0 → (s′ p′ a′ : List ℕ) → s′ ≡ stateAs (b .next) s → p′ ≡ pointsAs (b .next) p → a′ ≡ batchAs b a → BatchCall b s p a s′ p′ a′ 0
   batch-taken z s′ p′ a′ es ep ea =
-      let zero : batchCode b ≡ 0 = sym code ∙ z in
-      let t = eq-eqb (batchCode b) 0 zero in
+      let zero : checkCode (batchChecked b) ≡ 0 = sym code ∙ z in
+      let t = eq-eqb (checkCode (batchChecked b)) 0 zero in
       record { code = sym zero; state = rw t es; points = rw t ep; answer = rw t ea }
 
-pub none-taken-code : (b : Batch) → b .taken ≡ 0 → {r : ℕ} → r ≡ codeOf (b .refusal) → r ≡ batchCode b
-none-taken-code b z e = e ∙ rw (eq-eqb (b .taken) 0 z)
-
-pub taken-code : (b : Batch) → (b .taken ≡ 0 → ⊥) → 0 ≡ batchCode b
+pub taken-code : (b : Batch) → (b .taken ≡ 0 → ⊥) → 0 ≡ checkCode (batchChecked b)
 taken-code b n = rw (ne-eqb (b .taken) 0 n)
+
+-- no reading was taken: for want of one, or for a refusal
+module _ (b : Batch) (none : b .taken ≡ 0) where
+  pub unrefused-code : b .refusal .number ≡ 0 → 0 ≡ checkCode (batchChecked b)
+  unrefused-code z = rw (eq-eqb (b .taken) 0 none, eq-eqb (b .refusal .number) 0 z)
+
+  pub refused-code : (b .refusal .number ≡ 0 → ⊥) → {r : ℕ} → r ≡ codeOf (b .refusal) → r ≡ checkCode (batchChecked b)
+  refused-code n e = e ∙ rw (eq-eqb (b .taken) 0 none, ne-eqb (b .refusal .number) 0 n)
 
 -- x is the batch of the list k that the call made of the slots, and of the centre c as it was read back
 pub same-batch : {l k : RuleList} {centre c : ℤ} → k ≡ l → c ≡ centre → (m : Monitor) (sigma : ℕ) (xs : List ℤ) (x : Batch)

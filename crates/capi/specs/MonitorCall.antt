@@ -10,25 +10,27 @@ use Rattle.monitor.specs.declared.Monitor.{Monitor}
 use Rattle.monitor.specs.declared.Step.{Step}
 use Rattle.monitor.specs.Zone.{zoneOf}
 use Rattle.monitor.specs.Step.{monitorAt, stepOf}
-use Rattle.codes.specs.Codes.{codeOf}
+use Rattle.rules.specs.declared.Checked.{Checked}
+use Rattle.codes.specs.Codes.{checkCode}
 
 -- ---- the zone of a reading
 
-abbrev pub zoneCode : ZoneAnswer → ℕ
-zoneCode (ZoneAnswer.Zone z) = 0
-zoneCode (ZoneAnswer.Refused x) = codeOf x
+-- whether the answer accepts
+abbrev pub zoneChecked : ZoneAnswer → Checked
+zoneChecked (ZoneAnswer.Zone z) = Checked.Accepted
+zoneChecked (ZoneAnswer.Refused x) = Checked.Refused x
 
 abbrev pub zoneAfter : ZoneAnswer → List ℕ → List ℕ
 zoneAfter (ZoneAnswer.Zone z) zone = set zone 0 z
 zoneAfter (ZoneAnswer.Refused x) zone = zone
 
 pub record ZoneCall (reading centre : ℤ) (sigma : ℕ) (z z′ : List ℕ) (r : ℕ) : Type 0 where
-  pub code : r ≡ zoneCode (zoneOf reading centre sigma)
+  pub code : r ≡ checkCode (zoneChecked (zoneOf reading centre sigma))
   pub zone : z′ ≡ zoneAfter (zoneOf reading centre sigma) z
 
 -- ---- the step
 
--- the monitor that the caller keeps: a state and the points counted, each in an array of one place
+-- the monitor that the caller keeps: a state and the points counted, each in an array of one number
 abbrev pub monitorOf : List ℕ → List ℕ → Monitor
 monitorOf state points = monitorAt (getD state 0 0) (getD points 0 0)
 
@@ -42,10 +44,11 @@ pointsAs m points = set points 0 (m .count)
 abbrev pub answerAs : ℕ → ℕ → List ℕ → List ℕ
 answerAs count mask answer = set (set answer 0 count) 1 mask
 
-abbrev pub stepCode : Step → ℕ
-stepCode (Step.Refused x) = codeOf x
-stepCode (Step.Quiet count next) = 0
-stepCode (Step.Signal count mask next) = 0
+-- whether the answer accepts
+abbrev pub stepChecked : Step → Checked
+stepChecked (Step.Refused x) = Checked.Refused x
+stepChecked (Step.Quiet count next) = Checked.Accepted
+stepChecked (Step.Signal count mask next) = Checked.Accepted
 
 -- the three arrays after a step; a refusal leaves them as they were
 abbrev pub stateAfter : Step → List ℕ → List ℕ
@@ -64,7 +67,7 @@ answerAfter (Step.Quiet count next) answer = answerAs count 0 answer
 answerAfter (Step.Signal count mask next) answer = answerAs count mask answer
 
 pub record StepCall (l : RuleList) (m : Monitor) (z : ℕ) (s p a s′ p′ a′ : List ℕ) (r : ℕ) : Type 0 where
-  pub code : r ≡ stepCode (stepOf l m z)
+  pub code : r ≡ checkCode (stepChecked (stepOf l m z))
   pub state : s′ ≡ stateAfter (stepOf l m z) s
   pub points : p′ ≡ pointsAfter (stepOf l m z) p
   pub answer : a′ ≡ answerAfter (stepOf l m z) a

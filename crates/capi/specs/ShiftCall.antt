@@ -6,17 +6,19 @@ use lib.IntN.{ℤ}
 use Rattle.rules.specs.Weights.{weightList}
 use Rattle.shift.specs.declared.ShiftAnswer.{ShiftAnswer}
 use Rattle.shift.specs.Shift.{shiftOf}
-use Rattle.codes.specs.Codes.{codeOf}
+use Rattle.rules.specs.declared.Checked.{Checked}
+use Rattle.codes.specs.Codes.{checkCode}
 
-abbrev pub shiftCode : ShiftAnswer → ℕ
-shiftCode (ShiftAnswer.Accepted w) = 0
-shiftCode (ShiftAnswer.Refused x) = codeOf x
+-- whether the answer accepts
+abbrev pub shiftChecked : ShiftAnswer → Checked
+shiftChecked (ShiftAnswer.Accepted w) = Checked.Accepted
+shiftChecked (ShiftAnswer.Refused x) = Checked.Refused x
 
--- the array of a place for each zone: the weights from zone 0 on; a refusal leaves it as it was
+-- the array of a number for each zone: the weights from zone 0 on; a refusal leaves it as it was
 abbrev pub weightsAfter : ShiftAnswer → List ℕ → List ℕ
 weightsAfter (ShiftAnswer.Accepted w) weights = weightList w
 weightsAfter (ShiftAnswer.Refused x) weights = weights
 
 pub record ShiftCall (shift : ℤ) (w w′ : List ℕ) (r : ℕ) : Type 0 where
-  pub code : r ≡ shiftCode (shiftOf shift)
+  pub code : r ≡ checkCode (shiftChecked (shiftOf shift))
   pub weights : w′ ≡ weightsAfter (shiftOf shift) w

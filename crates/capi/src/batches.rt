@@ -7,19 +7,22 @@ use codes::sizes::SLOTS;
 use monitor::Monitor;
 ghost use mathlib.Core.Path.{_≡_};
 ghost use Rattle.batch.specs.Batch.{batchOf};
-ghost use Rattle.codes.specs.Codes.{slotList};
+ghost use Rattle.codes.specs.Codes.{slotList, checkCode};
 ghost use Rattle.capi.specs.MonitorCall.{monitorOf, stateAs, pointsAs};
-ghost use Rattle.capi.specs.BatchCall.{batchCode, batchAs, BatchCall};
+ghost use Rattle.capi.specs.BatchCall.{batchChecked, batchAs, BatchCall};
 
 // The refusal of a batch that took nothing, else 0.
 fn batch_code(found: Batch) -> u64
-    ensures { λ r. ⌜ r ≡ batchCode found ⌝ }
+    ensures { λ r. ⌜ r ≡ checkCode (batchChecked found) ⌝ }
 {
     let refusal = found.refusal;
-    if found.taken == 0 {
-        return code(refusal);
+    if found.taken > 0 {
+        return 0;
     }
-    0
+    if refusal.number == 0 {
+        return 0;
+    }
+    code(refusal)
 }
 
 // The monitor for the next reading, and how far the batch came.

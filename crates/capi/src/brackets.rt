@@ -1,12 +1,12 @@
 // The percentile bracket for callers in C and Rust.
+use bracket::Bracket;
 use bracket::BracketAnswer;
-use bracket::Place;
 use codes::code;
 use codes::sizes::BRACKET_ANSWER;
 ghost use mathlib.Core.Path.{_≡_};
-ghost use Rattle.capi.specs.BracketCall.{written, placeAs, BracketCalled};
+ghost use Rattle.capi.specs.BracketCall.{written, bracketAs, BracketCalled};
 
-// The three places of an answer.
+// The three numbers of an answer.
 fn write_answer(answer: &mut [u32; BRACKET_ANSWER], kind: u32, first: u32, second: u32)
     ensures { λ r. ⌜ now (answer .exit) ≡ written kind first second (now (answer .entry)) ⌝ }
 {
@@ -15,15 +15,15 @@ fn write_answer(answer: &mut [u32; BRACKET_ANSWER], kind: u32, first: u32, secon
     answer[2] = second;
 }
 
-// A percentile's place.
-fn write_place(answer: &mut [u32; BRACKET_ANSWER], place: Place)
-    ensures { λ r. ⌜ now (answer .exit) ≡ placeAs place (now (answer .entry)) ⌝ }
+// A percentile's bracket.
+fn write_bracket(answer: &mut [u32; BRACKET_ANSWER], found: Bracket)
+    ensures { λ r. ⌜ now (answer .exit) ≡ bracketAs found (now (answer .entry)) ⌝ }
 {
-    match place {
-        Place::At(n) => write_answer(answer, 1, n, n),
-        Place::Between { low, high } => write_answer(answer, 2, low, high),
-        Place::Open(low) => write_answer(answer, 3, low, 0),
-        Place::Beyond(length) => write_answer(answer, 4, length, 0),
+    match found {
+        Bracket::At(n) => write_answer(answer, 1, n, n),
+        Bracket::Between { low, high } => write_answer(answer, 2, low, high),
+        Bracket::Open(low) => write_answer(answer, 3, low, 0),
+        Bracket::Beyond(length) => write_answer(answer, 4, length, 0),
     }
 }
 
@@ -41,8 +41,8 @@ pub extern "C" fn catrovindy_bracket(
     let found = bracket::percentile_bracket(pmf, state_count, percent);
     match found {
         BracketAnswer::Refused(r) => code(r),
-        BracketAnswer::Accepted(place) => {
-            write_place(answer, place);
+        BracketAnswer::Accepted(found) => {
+            write_bracket(answer, found);
             0
         }
     }

@@ -6,7 +6,8 @@ use rules::Checked;
 ghost use mathlib.Core.Path.{_≡_};
 ghost use Rattle.rules.specs.Check.{checkOf};
 ghost use Rattle.codes.specs.Codes.{slotList};
-ghost use Rattle.capi.specs.ListCall.{checkCode, version};
+ghost use Rattle.codes.specs.Codes.{checkCode};
+ghost use Rattle.capi.specs.ListCall.{version};
 
 // Version 0.8.0: ten thousand times the first number, a hundred times the second, and the third.
 pub const VERSION: u32 = 800;

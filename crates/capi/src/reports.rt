@@ -5,11 +5,12 @@ ghost use mathlib.Core.Path.{_≡_};
 ghost use Rattle.table_report.specs.TableReport.{tablePrinted};
 ghost use Rattle.monitor_report.specs.MonitorReport.{monitorPrinted};
 ghost use Rattle.weights_report.specs.WeightsReport.{weightsPrinted};
-ghost use Rattle.capi.specs.ReportCall.{answerCode, answerCount, ReportCall};
+ghost use Rattle.codes.specs.Codes.{checkCode};
+ghost use Rattle.capi.specs.ReportCall.{answerChecked, answerCount, ReportCall};
 
 // The code of a report's answer, and its number of bytes in `bytes`.
 fn report_code(answer: ReportAnswer, bytes: &mut [u64; 1]) -> u64
-    ensures { λ r. ⌜ (r ≡ answerCode answer) × (now (bytes .exit) ≡ answerCount answer (now (bytes .entry))) ⌝ }
+    ensures { λ r. ⌜ (r ≡ checkCode (answerChecked answer)) × (now (bytes .exit) ≡ answerCount answer (now (bytes .entry))) ⌝ }
 {
     match answer {
         ReportAnswer::Refused(r) => code(r),

@@ -19,7 +19,7 @@ module _ (rs : List Rule) where
   unfoldable pub alikeStates : ℕ → ℕ → Bool
   alikeStates s t = alikeFor (stateAutomaton rs) (length (states (stateAutomaton rs))) s t
 
-  -- the state at the place i of the list of the states met is not alike to any before it
+  -- the state at the index i of the list of the states met is not alike to any before it
   unfoldable pub firstOfItsKind : ℕ → Bool
   firstOfItsKind i = eqb (lowest (λ j. alikeStates (at (states (stateAutomaton rs)) j) (at (states (stateAutomaton rs)) i)) i) i
 

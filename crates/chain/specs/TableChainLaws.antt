@@ -15,7 +15,7 @@ use Rattle.runlength.specs.SumLaws.{sum-cong}
 use Rattle.runlength.specs.Automaton.{Automaton, Move, quiet, signal, after}
 use Rattle.runlength.specs.Chain.{Proper, inflow, signalled, units, pmf, survival}
 use Rattle.runlength.specs.Future.{Alike, EqualFuture}
-use Rattle.runlength.specs.FutureLaws.{future-trans}
+use Rattle.runlength.specs.FutureLaws.{to-signal, future-trans}
 use Rattle.runlength.specs.LowestLaws.{lowest-cong}
 use Rattle.runlength.specs.ApartLaws.{same-test-by, simulation-alike}
 use Rattle.runlength.specs.Apart.{alikeFor}
@@ -28,9 +28,9 @@ use Rattle.runlength.specs.ListedLaws.{listed-proper, listed-holds}
 use Rattle.states.specs.States.{states, moves}
 use Rattle.states.specs.Automata.{stateAutomaton, referenceAutomaton}
 use Rattle.states.specs.AutomataLaws.{explored-reference}
-use Rattle.states.specs.Places.{At}
+use Rattle.runlength.specs.Index.{At}
 use Rattle.states.specs.StatesLaws.{states-some, states-first, explored-simulation}
-use Rattle.merge.specs.Merge.{givenChart, mergedCount}
+use Rattle.merge.specs.Merge.{givenAutomaton, mergedCount}
 use Rattle.merge.specs.MergeLaws.{merged-most, listed-merged, listed-future}
 use Rattle.chain.specs.TableChain.{exploredCount, stateCount, chainMoves, tableAutomaton, tableChain}
 use Rattle.chain.specs.ByState.{alikeStates, firstOfItsKind, overStates, stateInflow, stateSignalled, stateUnits}
@@ -43,7 +43,7 @@ module _ (rs : List Rule) where
 
   pub count-some : 1 ≤ stateCount rs
   unfolding stateCount mergedCount
-  count-some = merged.count-some (givenChart (exploredCount rs) (moves (stateAutomaton rs))) (exploredCount rs) explored-some
+  count-some = merged.count-some (givenAutomaton (exploredCount rs) (moves (stateAutomaton rs))) (exploredCount rs) explored-some
 
   -- no more states than are explored
   pub count-explored : stateCount rs ≤ exploredCount rs
@@ -64,7 +64,7 @@ module _ (rs : List Rule) where
   unfolding tableAutomaton
   chain-holds = listed-holds zoneCount (stateCount rs) (chainMoves rs) count-some
 
-  -- the places of the explored states, and their moves
+  -- the indices of the explored states, and their moves
   abbrev pub met : List ℕ
   met = states (stateAutomaton rs)
 
@@ -72,7 +72,7 @@ module _ (rs : List Rule) where
   n = length met
 
   abbrev pub given : Automaton ℕ
-  given = givenChart n (moves (stateAutomaton rs))
+  given = givenAutomaton n (moves (stateAutomaton rs))
 
   module _ (few : exploredCount rs ≤ maxStates) where
     pub few-met : n ≤ maxStates
@@ -88,22 +88,22 @@ module _ (rs : List Rule) where
 
     -- ---- its rounded units, by state
 
-    -- the state of a class: that of its first place
+    -- the state of a class: that of its first index
     abbrev stateOf : ℕ → ℕ
     stateOf c = at met (firstOf given n c)
 
-    -- a place of the list, as the relation of places and states
+    -- a index of the list, as the relation of indices and states
     standing : (i : ℕ) → i < n → At met i (at met i)
     standing i l = record { below = l; is = refl }
 
-    -- states are alike exactly where their places are
-    pub alike-places : (i j : ℕ) → i < n → j < n → alikeFor given n i j ≡ alikeStates rs (at met i) (at met j)
+    -- states are alike exactly where their indices are
+    pub alike-indices : (i j : ℕ) → i < n → j < n → alikeFor given n i j ≡ alikeStates rs (at met i) (at met j)
     unfolding alikeStates
-    alike-places i j h l =
+    alike-indices i j h l =
         simulation-alike given (stateAutomaton rs) (At met) (explored-simulation (stateAutomaton rs) few-met) n i j (at met i) (at met j)
         (standing i h) (standing j l)
 
-    -- a place is of a class exactly where its state is alike to that of the class
+    -- a index is of a class exactly where its state is alike to that of the class
     by-class : (i c : ℕ) → i < n → c < classCount given n → eqb (classOf given n i) c ≡ alikeStates rs (at met i) (stateOf c)
     by-class i c h l =
         let s = firstOf given n c in
@@ -111,12 +111,12 @@ module _ (rs : List Rule) where
         same-test-by (eqb (classOf given n i) c) (alikeFor given n i s)
         (λ e. leader-same given n i s (class-same given n i s (eqb-true (classOf given n i) c e ∙ sym (f .class))))
         (λ e. eq-eqb (classOf given n i) c (merged.same-class given n i s (same-leader given n i s e) ∙ f .class))
-        ∙ alike-places i s h (f .below)
+        ∙ alike-indices i s h (f .below)
 
-    -- the first place of a class holds the first state of its kind
+    -- the first index of a class holds the first state of its kind
     by-first : (i : ℕ) → i < n → leadsFor given n i ≡ firstOfItsKind rs i
     unfolding leaderFor firstOfItsKind
-    by-first i h = ap (λ x. eqb x i) (lowest-cong _ _ i (λ j l. alike-places j i (omega arith) h))
+    by-first i h = ap (λ x. eqb x i) (lowest-cong _ _ i (λ j l. alike-indices j i (omega arith) h))
 
     -- a sum over the classes is one over the states that differ
     over-classes : (f : ℕ → ℕ) → sum (classCount given n) (λ c. f (stateOf c)) ≡ overStates rs f
@@ -125,7 +125,7 @@ module _ (rs : List Rule) where
         sym (sum-classes given n (λ i. f (at met i)))
         ∙ sum-cong n _ _ (λ i h. ap (λ b. only b (f (at met i))) (by-first i h))
 
-    -- what the moves of a class bring, F saying what a move brings with what is brought to each place
+    -- what the moves of a class bring, F saying what a move brings with what is brought to each index
     class-move : (c z : ℕ) → c < classCount given n → z < zoneCount → {A : Type 0} (x : A) (f : ℕ → A)
         → after (tableAutomaton rs .move c z) x f ≡ after (given .move (firstOf given n c) z) x (λ i. f (classOf given n i))
     unfolding tableAutomaton stateCount exploredCount chainMoves mergedMove mergedCount
@@ -136,7 +136,7 @@ module _ (rs : List Rule) where
         go (quiet t) = refl
         go signal = refl
 
-    -- a move of a place is that of its state
+    -- a move of a index is that of its state
     moved : (i z : ℕ) → i < n → z < zoneCount → Alike (At met) (given .move i z) (stateAutomaton rs .move (at met i) z)
     moved i z l h = explored-simulation (stateAutomaton rs) few-met .kept i (at met i) (standing i l) z h
 
@@ -149,13 +149,6 @@ module _ (rs : List Rule) where
     to-state d l x (quiet i) signal p = absurd p
     to-state d l x signal (quiet s) p = absurd p
     to-state d l x signal signal p = refl
-
-    to-signal : (x : ℕ) (o k : Move ℕ) → Alike (At met) o k → after o x (λ r. 0) ≡ after k x (λ r. 0)
-    unfolding Alike
-    to-signal x (quiet i) (quiet s) p = refl
-    to-signal x (quiet i) signal p = absurd p
-    to-signal x signal (quiet s) p = absurd p
-    to-signal x signal signal p = refl
 
     module _ (w : List ℕ) where
       -- what the moves of a class and its state bring
@@ -189,7 +182,7 @@ module _ (rs : List Rule) where
           ap (λ x. x / weightTotal)
           (sum-cong (classCount given n) _ _ (λ s h. sum-cong zoneCount _ _ (λ z g.
           class-move s z h g (units (tableChain rs w) k s * at w z) (λ r. 0)
-          ∙ to-signal _ _ _ (moved (firstOf given n s) z (first-of given n s h .below) g)
+          ∙ to-signal (At met) _ _ _ (moved (firstOf given n s) z (first-of given n s h .below) g)
           ∙ ap (λ y. after (stateAutomaton rs .move (stateOf s) z) (y * at w z) (λ r. 0)) (class-units k s h)))
           ∙ over-classes (λ s. sum zoneCount (λ z. after (stateAutomaton rs .move s z) (stateUnits rs w k s * at w z) (λ r. 0))))
 

@@ -11,14 +11,14 @@ ghost use Rattle.rules.specs.declared.Checked.the-variants.{Accepted};
 ghost use Rattle.chain.specs.ChainMade.{ChainMade};
 
 // So many states that differ, or why the chart is refused.
-pub enum ChartAnswer {
+pub enum ChainAnswer {
     Accepted(usize),
     Refused(Refusal),
 }
 
 // The chain of rules that are accepted: 10, which counts before merging, or the number of states that differ, with their moves in the list.
 // For the crates of this repository: it has a `requires`.
-pub fn chain_moves(list: RuleList, moves: &mut [u16]) -> ChartAnswer
+pub fn chain_moves(list: RuleList, moves: &mut [u16]) -> ChainAnswer
     requires { ⌜ checkOf list ≡ Accepted ⌝ }
     requires { ⌜ length (now moves) ≡ zoneCount * maxStates ⌝ }
     ensures { λ r. ⌜ ChainMade (activeRules list) (now (moves .exit)) r ⌝ }
@@ -27,11 +27,11 @@ pub fn chain_moves(list: RuleList, moves: &mut [u16]) -> ChartAnswer
     let mut explored = [0u16; ZONES * RuleList::MAX_STATES];
     let n = states::explore(list, &mut found, &mut explored);
     if n > RuleList::MAX_STATES {
-        return ChartAnswer::Refused(Refusal {
+        return ChainAnswer::Refused(Refusal {
             number: Refusal::STATES,
             place: 0,
         });
     }
     let count = merge::merge(&explored, n, moves);
-    ChartAnswer::Accepted(count)
+    ChainAnswer::Accepted(count)
 }

@@ -17,7 +17,18 @@ use Rattle.monitor.specs.Zone.{zoneS, zoneA1, zoneB1, zoneC1, zoneC2, zoneB2, z
 use Rattle.window.specs.ReferenceChart.{Answer}
 use Rattle.states.specs.States.{states, moves}
 use Rattle.chain.specs.TableChain.{tableAutomaton}
-use Rattle.claims.specs.Exact.{freeAnswers, isSignal, saysSignal, firstSignal}
+use Rattle.claims.specs.Exact.{freeAnswers, saysSignal, firstSignal}
+use Rattle.window.specs.ReferenceChart.{isSignal}
+use Prim.Native.Nat.{ℕ, _*_}
+use mathlib.Core.Path.{_≡_}
+use mathlib.Core.List.{List, [], _∷_, _++_}
+use Rattle.runlength.specs.Sum.{only, sumSequences, at}
+use Rattle.runlength.specs.Automaton.{product}
+use Rattle.runlength.specs.Chain.{Chain}
+use Rattle.monitor.specs.Zone.{zoneC0}
+use Rattle.chain.specs.TableChain.{tableAutomaton}
+use Rattle.table.specs.Table.{TableCall, rulesOf}
+use Rattle.claims.specs.Exact.{saysSignal, firstSignal, freeAnswers}
 
 -- ---- rules and rows
 
@@ -66,3 +77,9 @@ withoutCentre rs = record { start = tableAutomaton rs .start; move = tableAutoma
 -- the chain of the states that they meet
 abbrev pub chainWithoutCentre : List Rule → List ℕ → Chain
 chainWithoutCentre rs w = listedChain zoneC0 (length (states (withoutCentre rs))) (moves (withoutCentre rs)) (at w)
+
+-- ---- the table, where C0 has weight 0
+
+-- the chain of the seven other zones
+abbrev pub sevenZones : TableCall → Chain
+sevenZones t = chainWithoutCentre (rulesOf t) (t .weights)

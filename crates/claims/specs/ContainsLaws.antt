@@ -1,4 +1,4 @@
--- The percentile's place by an accepted table's chances contains the true percentile. Laws.
+-- The percentile's bracket by an accepted table's chances contains the true percentile. Laws.
 use mathlib.Core.Path.{_≡_, ap, ap₂}
 use mathlib.Core.Bool.{Bool}
 use Prim.Native.Nat.{ℕ, _+_, _*_, _≤_}
@@ -6,16 +6,16 @@ use native.Mathlib.Omega.{arith}
 use lib.Dec.{T, leb, ltb, leb→le, le→leb, lt→ltb}
 use Rattle.runlength.specs.Scale.{unitsPerOne, percentsPerOne}
 use Rattle.runlength.specs.Chain.{cdf}
-use Rattle.runlength.specs.PercentBounds.{share-reached, reached-share}
+use Rattle.runlength.specs.PercentBoundsLaws.{share-reached, reached-share}
 use Rattle.runlength.specs.Percentile.{least}
 use Rattle.runlength.specs.PercentileLaws.{least-cong, bracket-contains}
 use Rattle.table.specs.declared.TableFigures.{TableFigures}
 use Rattle.chain.specs.TableChain.{stateCount}
 use Rattle.table.specs.Table.{TableCall, rulesOf, chainOf, pmfOf}
 use Rattle.table.specs.AcceptedTable.{AcceptedTable}
-use Rattle.bracket.specs.Bracket.{reaches, passes, highTest, lowTest, percentilePlace}
-use Rattle.bracket.specs.Contains.{PlaceContains}
-use Rattle.bracket.specs.BracketLaws.{place-contains}
+use Rattle.bracket.specs.Bracket.{reaches, passes, highTest, lowTest, percentileBracket}
+use Rattle.bracket.specs.Contains.{BracketContains}
+use Rattle.bracket.specs.BracketLaws.{by-contains}
 use Rattle.claims.specs.Exact.{reached}
 use Rattle.claims.specs.ExactLaws.{sum-of-chain}
 
@@ -43,18 +43,18 @@ module _ {t : TableCall} {f : TableFigures} (a : AcceptedTable t f) (percent : �
   high-reached : (n : ℕ) → T (chain-high n) → T (true-test n)
   unfolding reached reaches
   high-reached n h =
-      rw (sum-of-chain (rulesOf t) (t .weights) (a .chart .bounds) (a .chart .few) n)
+      rw (sum-of-chain (rulesOf t) (t .weights) (a .chain .bounds) (a .chain .few) n)
       (le→leb _ _ (share-reached (chainOf t) (a .proper) percent percentsPerOne n (leb→le _ _ h)))
 
   reached-low : (n : ℕ) → 1 ≤ n → T (true-test n) → T (chain-low n)
   unfolding reached passes
   reached-low n i h =
       lt→ltb _ _ (reached-share (chainOf t) (a .proper) percent percentsPerOne n (omega arith) i
-      (leb→le _ _ (rw (sum-of-chain (rulesOf t) (t .weights) (a .chart .bounds) (a .chart .few) n) at h)))
+      (leb→le _ _ (rw (sum-of-chain (rulesOf t) (t .weights) (a .chain .bounds) (a .chain .few) n) at h)))
 
-  pub call-contains : PlaceContains true-test (percentilePlace (pmfOf t) (f .«state_count») percent)
-  unfolding percentilePlace
+  pub call-contains : BracketContains true-test (percentileBracket (pmfOf t) (f .«state_count») percent)
+  unfolding percentileBracket
   call-contains =
       rw (a .pmf-length, same-low, same-high)
-      (place-contains true-test (t .horizon) (least chain-low (t .horizon)) (least chain-high (t .horizon))
+      (by-contains true-test (t .horizon) (least chain-low (t .horizon)) (least chain-high (t .horizon))
       (bracket-contains true-test chain-low chain-high reached-low high-reached (t .horizon)))

@@ -10,7 +10,7 @@ use Rattle.runlength.specs.Sum.{at}
 use Rattle.runlength.specs.Future.{EqualFuture}
 use Rattle.window.specs.ReferenceChart.{rowMask}
 use Rattle.window.specs.RowState.{stateOfRow}
-use Rattle.states.specs.Places.{Distinct}
+use Rattle.runlength.specs.Index.{Distinct}
 use Rattle.states.specs.Automata.{referenceAutomaton}
 
 -- a row of zones, the newest first, at none of whose points some rule holds

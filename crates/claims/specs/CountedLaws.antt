@@ -69,7 +69,7 @@ module _ (rs : List Rule) (bounds : AllInBounds rs) where
       count = refl;
       distinct = states-distinct (stateAutomaton rs);
       each = λ i h. met-quiet (states-met (stateAutomaton rs) .met i h);
-      all = λ row q. let p = states-all (stateAutomaton rs) few-met .place (stateOfRow rs row) (quiet-met q) in (p .0, p .1 .below, p .1 .is);
+      all = λ row q. let p = states-all (stateAutomaton rs) few-met .index (stateOfRow rs row) (quiet-met q) in (p .0, p .1 .below, p .1 .is);
     }
 
   -- ---- futures

@@ -14,7 +14,7 @@ use Rattle.runlength.specs.Chain.{restrictedMean}
 use Rattle.runlength.specs.Future.{EqualFuture}
 use Rattle.monitor.specs.Step.{freshMonitor}
 use Rattle.monitor.specs.Calls.{monitorAnswers}
-use Rattle.monitor.specs.Agreement.{agreement}
+use Rattle.monitor.specs.AgreementLaws.{monitor-agrees}
 use Rattle.states.specs.States.{Met}
 use Rattle.states.specs.Automata.{stateAutomaton}
 use Rattle.chain.specs.TableChain.{exploredCount}
@@ -36,7 +36,7 @@ use Rattle.claims.specs.CountedLaws.{counts-states, counts-futures}
 -- For every accepted rule list and every list of calls: each accepted call is a signal exactly when some rule's T(k,m,Z) holds over the points
 -- since the chart was cleared, this one among them; bit i of its mask is set exactly when rule i's does; no bit beyond the rules is ever set.
 pub monitor-names : (l : RuleList) → checkOf l ≡ Accepted → (zs : List ℕ) → EachAnswered (activeRules l) [] zs (monitorAnswers l freshMonitor zs)
-monitor-names l accepted zs = rw (agreement l accepted zs) (chart-answered (activeRules l) [] zs)
+monitor-names l accepted zs = rw (monitor-agrees l accepted zs) (chart-answered (activeRules l) [] zs)
 
 -- ---- the table: every figure of an accepted call is the one of the round-down steps, by state, over the states that differ
 
@@ -46,31 +46,31 @@ module _ (t : TableCall) (f : TableFigures) (accepted : tableOf t .answer ≡ Ta
 
   -- The number that 10 looks at counts exactly the states of the rows that all zone sequences with no signal make, before any is merged.
   pub explored-counted : CountsStates (rulesOf t) (exploredCount (rulesOf t))
-  explored-counted = counts-states (rulesOf t) (call .chart .bounds) (call .chart .few)
+  explored-counted = counts-states (rulesOf t) (call .chain .bounds) (call .chain .few)
 
   -- N counts exactly the futures that these rows have.
   pub states-counted : CountsFutures (rulesOf t) (f .«state_count»)
-  states-counted = rw (call .count-is) (counts-futures (rulesOf t) (call .chart .bounds) (call .chart .few))
+  states-counted = rw (call .count-is) (counts-futures (rulesOf t) (call .chain .bounds) (call .chain .few))
 
   -- Two states that zone sequences meet with no signal are alike, so taken as one, exactly where they have equal futures.
   pub alike-futures : {r s : ℕ} → Met (stateAutomaton (rulesOf t)) r → Met (stateAutomaton (rulesOf t)) s
       → (alikeStates (rulesOf t) r s ≡ true) ↔ EqualFuture (stateAutomaton (rulesOf t)) (stateAutomaton (rulesOf t)) r s
-  alike-futures p q = alike-exactly (rulesOf t) (call .chart .few) p q
+  alike-futures p q = alike-exactly (rulesOf t) (call .chain .few) p q
 
   -- The chance at n + 1 is what the states signal then, divided once.
   pub chance-by-state : (n : ℕ) → n < t .horizon
       → at (tableOf t .pmfList) n ≡ stateSignalled (rulesOf t) (t .weights) (stateUnits (rulesOf t) (t .weights) n) / weightTotal
-  chance-by-state n i = call .pmf-at n i ∙ chain-pmf (rulesOf t) (call .chart .few) (t .weights) n
+  chance-by-state n i = call .pmf-at n i ∙ chain-pmf (rulesOf t) (call .chain .few) (t .weights) n
 
   -- Left at n + 1 is the sum over the states of their units then.
   pub left-by-state : (n : ℕ) → n < t .horizon
       → at (tableOf t .survivalList) n ≡ overStates (rulesOf t) (stateUnits (rulesOf t) (t .weights) (suc n))
-  left-by-state n i = call .survival-at n i ∙ chain-survival (rulesOf t) (call .chart .few) (t .weights) (suc n)
+  left-by-state n i = call .survival-at n i ∙ chain-survival (rulesOf t) (call .chain .few) (t .weights) (suc n)
 
   -- So is left at the horizon, and the cut mean is the sum of left from 0 to H - 1.
   pub survival-by-state : f .survival ≡ overStates (rulesOf t) (stateUnits (rulesOf t) (t .weights) (t .horizon))
-  survival-by-state = call .survival-is ∙ chain-survival (rulesOf t) (call .chart .few) (t .weights) (t .horizon)
+  survival-by-state = call .survival-is ∙ chain-survival (rulesOf t) (call .chain .few) (t .weights) (t .horizon)
 
   pub mean-by-state : meanOf f ≡ sum (t .horizon) (λ n. overStates (rulesOf t) (stateUnits (rulesOf t) (t .weights) n))
   unfolding restrictedMean
-  mean-by-state = call .mean-is ∙ sum-cong (t .horizon) _ _ (λ n i. chain-survival (rulesOf t) (call .chart .few) (t .weights) n)
+  mean-by-state = call .mean-is ∙ sum-cong (t .horizon) _ _ (λ n i. chain-survival (rulesOf t) (call .chain .few) (t .weights) n)

@@ -14,25 +14,26 @@ use Rattle.runlength.specs.Scale.{maxHorizon, weightTotal, unitsPerOne}
 use Rattle.runlength.specs.Sum.{at, only}
 use Rattle.runlength.specs.Sequence.{AllBelow}
 use Rattle.runlength.specs.Chain.{survival, cdfOf, meanErrorBound}
-use Rattle.runlength.specs.Conservation.{mass-conservation}
-use Rattle.runlength.specs.CdfBounds.{cdf-lower, cdf-strict-upper}
-use Rattle.runlength.specs.RestrictedMean.{mean-lower, mean-upper}
+use Rattle.runlength.specs.ConservationLaws.{mass-conservation}
+use Rattle.runlength.specs.CdfBoundsLaws.{cdf-lower, cdf-strict-upper}
+use Rattle.runlength.specs.RestrictedMeanLaws.{mean-lower, mean-upper}
 use Rattle.runlength.specs.SequenceLaws.{sequences-cong}
 use Rattle.runlength.specs.Automaton.{product}
 use Rattle.runlength.specs.PercentileLaws.{never-percentile}
 use Rattle.monitor.specs.Step.{freshMonitor}
 use Rattle.window.specs.ReferenceChart.{chartAnswers}
 use Rattle.monitor.specs.Calls.{monitorAnswers, refusalNumber, Said, EachAnswer}
-use Rattle.monitor.specs.Agreement.{agreement, no-call-gets-5, no-refused-call}
+use Rattle.monitor.specs.AgreementLaws.{no-call-gets-5, no-refused-call}
+use Rattle.monitor.specs.AgreementLaws.{monitor-agrees as monitor-agrees-proved}
 use Rattle.table.specs.declared.TableFigures.{TableFigures}
 use Rattle.table.specs.declared.TableAnswer.{TableAnswer}
 use Rattle.table.specs.Table.{TableCall, rulesOf, chainOf, tableOf, pmfOf, meanOf}
 use Rattle.table.specs.AcceptedTable.{AcceptedTable}
 use Rattle.table.specs.AcceptedTableLaws.{accepted-table}
-use Rattle.bracket.specs.declared.Place.the-variants.{At, Between, Open, Beyond}
+use Rattle.bracket.specs.declared.Bracket.the-variants.{At, Between, Open, Beyond}
 use Rattle.bracket.specs.Limits.{minPercent, maxPercent}
 use Rattle.bracket.specs.Bracket.{bracketOf}
-use Rattle.bracket.specs.Contains.{PlaceContains, ContainsPercentile}
+use Rattle.bracket.specs.Contains.{BracketContains, ContainsPercentile}
 use Rattle.bracket.specs.BracketLaws.{accepted-bracket}
 use Rattle.summary.specs.SummaryLaws.{brackets-accepted}
 use Rattle.claims.specs.Exact.{freeAnswers, saysSignal, exactSum, exactMean, monitorSum, reached}
@@ -46,7 +47,7 @@ module _ (l : RuleList) (accepted : checkOf l ≡ Accepted) where
   -- For every list of monitor calls, from a fresh monitor and refused calls included, the answers are those of the plain chart: refusal
   -- number, quiet or signal, count and mask.
   pub monitor-agrees : (zs : List ℕ) → monitorAnswers l freshMonitor zs ≡ chartAnswers (activeRules l) [] zs
-  monitor-agrees zs = agreement l accepted zs
+  monitor-agrees = monitor-agrees-proved l accepted
 
   -- So no call gets 5.
   pub monitor-never-5 : (zs : List ℕ) → EachAnswer (λ a. refusalNumber a ≡ 5 → ⊥) (monitorAnswers l freshMonitor zs)
@@ -79,14 +80,14 @@ module _ (t : TableCall) (f : TableFigures) (accepted : tableOf t .answer ≡ Ta
     pub cdf-bounds : (cdfOf (pmfOf t) n * weightTotal ^ n ≤ exactSum (rulesOf t) (t .weights) n * unitsPerOne)
         × (exactSum (rulesOf t) (t .weights) n * unitsPerOne < (cdfOf (pmfOf t) n + n * (f .«state_count» + 1)) * weightTotal ^ n)
     cdf-bounds =
-        rw (sum-of-chain (rulesOf t) (t .weights) (call .chart .bounds) (call .chart .few) n, call .pmf-cdf n n-max, call .count-is)
+        rw (sum-of-chain (rulesOf t) (t .weights) (call .chain .bounds) (call .chain .few) n, call .pmf-cdf n n-max, call .count-is)
         (cdf-lower (chainOf t) (call .proper) n, cdf-strict-upper (chainOf t) (call .proper) n n-min)
 
     -- The same of what a fresh monitor signals on, every zone sequence of length n fed to it.
     pub monitor-bounds : (cdfOf (pmfOf t) n * weightTotal ^ n ≤ monitorSum (t .list) (t .weights) n * unitsPerOne)
         × (monitorSum (t .list) (t .weights) n * unitsPerOne < (cdfOf (pmfOf t) n + n * (f .«state_count» + 1)) * weightTotal ^ n)
     monitor-bounds =
-        rw (monitor-sum (t .list) (call .chart .rules) n (omega (arith, call .chart .most-horizon)) (t .weights)) cdf-bounds
+        rw (monitor-sum (t .list) (call .chain .rules) n (omega (arith, call .chain .most-horizon)) (t .weights)) cdf-bounds
 
     -- The chance by n and what is left at n are together never over probability one, and short of it by at most n × N units.
     pub mass-kept : (cdfOf (pmfOf t) n + at (tableOf t .survivalList) (n - 1) ≤ unitsPerOne)
@@ -109,26 +110,26 @@ module _ (t : TableCall) (f : TableFigures) (accepted : tableOf t .answer ≡ Ta
       ≤ (meanOf f + f .«state_count» * t .horizon * (t .horizon - 1) / 2) * weightTotal ^ t .horizon)
   unfolding meanErrorBound
   mean-bounds =
-      rw (mean-of-chain (rulesOf t) (t .weights) (call .chart .bounds) (call .chart .few) (t .horizon), call .mean-is, call .count-is)
+      rw (mean-of-chain (rulesOf t) (t .weights) (call .chain .bounds) (call .chain .few) (t .horizon), call .mean-is, call .count-is)
       (mean-lower (chainOf t) (call .proper) (t .horizon), mean-upper (chainOf t) (call .proper) (t .horizon))
 
 -- ---- where no n reaches the percentile, it counts as beyond every number
 
 module _ (test : ℕ → Bool) (never : (n : ℕ) → 1 ≤ n → T (test n) → ⊥) where
   -- 'open from' and 'beyond' then contain it
-  pub never-open : (low : ℕ) → PlaceContains test (Open low)
-  unfolding PlaceContains
+  pub never-open : (low : ℕ) → BracketContains test (Open low)
+  unfolding BracketContains
   never-open low n q = absurd (never-percentile test never n q)
 
-  pub never-beyond : (h : ℕ) → PlaceContains test (Beyond h)
-  unfolding PlaceContains
+  pub never-beyond : (h : ℕ) → BracketContains test (Beyond h)
+  unfolding BracketContains
   never-beyond h n q = absurd (never-percentile test never n q)
 
   -- 'at' and 'between' do not
-  pub never-at : (n : ℕ) → PlaceContains test (At n) → ⊥
-  unfolding PlaceContains
+  pub never-at : (n : ℕ) → BracketContains test (At n) → ⊥
+  unfolding BracketContains
   never-at n q = never-percentile test never n q
 
-  pub never-between : (low high : ℕ) → PlaceContains test (Between low high) → ⊥
-  unfolding PlaceContains
+  pub never-between : (low high : ℕ) → BracketContains test (Between low high) → ⊥
+  unfolding BracketContains
   never-between low high c = never-percentile test never (c .0) (c .1)

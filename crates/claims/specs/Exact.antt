@@ -10,7 +10,7 @@ use Rattle.runlength.specs.Sum.{only, sumSequences, at}
 use Rattle.runlength.specs.Automaton.{product}
 use Rattle.runlength.specs.Scale.{weightTotal, percentsPerOne}
 use Rattle.monitor.specs.Step.{freshMonitor}
-use Rattle.window.specs.ReferenceChart.{Answer, refused, quiet, signal, rowMask, chartBy}
+use Rattle.window.specs.ReferenceChart.{Answer, isSignal, rowMask, chartBy}
 use Rattle.monitor.specs.Calls.{monitorAnswers}
 
 -- The plain chart, here refusing none, from a row: each zone is added to the row; then quiet with the row's length, or signal with its
@@ -19,11 +19,6 @@ unfoldable pub freeAnswers : List Rule → List ℕ → List ℕ → List Answer
 freeAnswers rs row [] = []
 freeAnswers rs row (z ∷ zs) =
     chartBy (rowMask rs (z ∷ row)) (z ∷ row) .answer ∷ freeAnswers rs (chartBy (rowMask rs (z ∷ row)) (z ∷ row) .row) zs
-
-abbrev pub isSignal : Answer → Bool
-isSignal (refused number) = false
-isSignal (quiet count) = false
-isSignal (signal count mask) = true
 
 -- signal at least once
 unfoldable pub saysSignal : List Answer → Bool

@@ -1,6 +1,6 @@
 -- CLAIMS: of an accepted call, the chain that the table runs on first signals on the same sequences as the plain chart; it has N states; and no
 -- chart moved by zones alone that first signals on these sequences has fewer, whatever its states are.
-use Prim.Native.Nat.{ℕ, _≤_}
+use Prim.Native.Nat.{_≤_}
 use mathlib.Core.Path.{_≡_}
 use mathlib.Core.List.{List, []}
 use lib.ListN.{length}
@@ -26,7 +26,7 @@ module _ (t : TableCall) (f : TableFigures) (accepted : tableOf t .answer ≡ Ta
 
   -- The chain has the future of the plain chart from an empty row: every sequence of zones first signals at the same point of both.
   pub merged-chain-future : EqualFuture (referenceAutomaton (rulesOf t)) (tableAutomaton (rulesOf t)) [] (tableAutomaton (rulesOf t) .start)
-  merged-chain-future = chain-future (rulesOf t) (call .chart .few) (call .chart .bounds)
+  merged-chain-future = chain-future (rulesOf t) (call .chain .few) (call .chain .bounds)
 
   -- So it first signals on the same sequences.
   pub merged-chain-first : SameFirstSignals (referenceAutomaton (rulesOf t)) (tableAutomaton (rulesOf t)) [] (tableAutomaton (rulesOf t) .start)
@@ -45,4 +45,4 @@ module _ (t : TableCall) (f : TableFigures) (accepted : tableOf t .answer ≡ Ta
       → SameFirstSignals (referenceAutomaton (rulesOf t)) b [] (b .start) → f .«state_count» ≤ length xs
   fewest-states b xs holds same =
       rw (call .count-is)
-      (chain-fewest (rulesOf t) (call .chart .few) (call .chart .bounds) b xs holds (first-future (referenceAutomaton (rulesOf t)) b same))
+      (chain-fewest (rulesOf t) (call .chain .few) (call .chain .bounds) b xs holds (first-future (referenceAutomaton (rulesOf t)) b same))

@@ -15,21 +15,22 @@ use Rattle.runlength.specs.SumLaws.{sum-cong, sum-none, sum-point}
 use Rattle.runlength.specs.Automaton.{Move, quiet, signal, after}
 use Rattle.runlength.specs.Chain.{Chain, inflow, signalled, units, pmf, survival}
 use Rattle.runlength.specs.Listed.{listedAutomaton, listedChain}
+use Rattle.runlength.specs.FutureLaws.{to-signal}
 use Rattle.runlength.specs.Future.{Alike}
-use Rattle.states.specs.PlaceLaws.{same-test}
+use Rattle.runlength.specs.IndexLaws.{same-test}
 
 pub only-none : (b : Bool) → only b 0 ≡ 0
 only-none true = refl
 only-none false = refl
 
--- ---- a sum over the places that φ gives, where nothing stands elsewhere
+-- ---- a sum over the indices that φ gives, where nothing stands elsewhere
 
--- f but for the place p
+-- f but for the index p
 abbrev without : ℕ → (ℕ → ℕ) → ℕ → ℕ
 without p f s = cond (eqb s p) 0 (f s)
 
 module _ (φ : ℕ → ℕ) (m : ℕ) where
-  -- one place fewer
+  -- one index fewer
   nothing-left : (n : ℕ) (f : ℕ → ℕ) → ((s : ℕ) → s < m → ((i : ℕ) → i < suc n → φ i ≡ s → ⊥) → f s ≡ 0)
       → (s : ℕ) → s < m → ((i : ℕ) → i < n → φ i ≡ s → ⊥) → without (φ n) f s ≡ 0
   nothing-left n f elsewhere s h d = go (eqb s (φ n)) refl
@@ -59,12 +60,12 @@ module _ (φ : ℕ → ℕ) (m : ℕ) where
       (λ s l d. ap (λ b. cond b 0 (f s)) (sym (ne-eqb s (φ n) d))) in
       omega (arith, rest, same, last)
 
--- ---- the two chains: φ gives the place in the larger one, of n states and the zones to k, of each of the m states of
+-- ---- the two chains: φ gives the index in the larger one, of n states and the zones to k, of each of the m states of
 -- the smaller one
 
--- the places of a pair of moves: both signal, or both go on, the larger one to the place of the smaller one's state
-abbrev pub Placed : (ℕ → ℕ) → ℕ → Move ℕ → Move ℕ → Type 0
-Placed φ m = Alike (λ x y. (y < m) × (x ≡ φ y))
+-- the indices of a pair of moves: both signal, or both go on, the larger one to the index of the smaller one's state
+abbrev pub Indexed : (ℕ → ℕ) → ℕ → Move ℕ → Move ℕ → Type 0
+Indexed φ m = Alike (λ x y. (y < m) × (x ≡ φ y))
 
 pub record Inside (k n m : ℕ) (large small : List ℕ) (φ : ℕ → ℕ) : Type 0 where
   pub some : 0 < m
@@ -72,7 +73,7 @@ pub record Inside (k n m : ℕ) (large small : List ℕ) (φ : ℕ → ℕ) : Ty
   pub apart : (i j : ℕ) → i < j → j < m → φ i ≡ φ j → ⊥
   pub first : φ 0 ≡ 0
   pub moves : (i z : ℕ) → i < m → z < k
-      → Placed φ m (listedAutomaton (suc k) n large .move (φ i) z) (listedAutomaton k m small .move i z)
+      → Indexed φ m (listedAutomaton (suc k) n large .move (φ i) z) (listedAutomaton k m small .move i z)
 
 module _ {k n m : ℕ} {large small : List ℕ} {φ : ℕ → ℕ} (p : Inside k n m large small φ)
     (w : ℕ → ℕ) (weightless : w k ≡ 0) where
@@ -82,7 +83,7 @@ module _ {k n m : ℕ} {large small : List ℕ} {φ : ℕ → ℕ} (p : Inside k
   abbrev D : Chain
   D = listedChain k m small w
 
-  -- units u of the larger chain and v of the smaller: the same at the places, and none elsewhere
+  -- units u of the larger chain and v of the smaller: the same at the indices, and none elsewhere
   record Held (u v : ℕ → ℕ) : Type 0 where
     same : (i : ℕ) → i < m → u (φ i) ≡ v i
     none : (s : ℕ) → s < n → ((i : ℕ) → i < m → φ i ≡ s → ⊥) → u s ≡ 0
@@ -104,28 +105,21 @@ module _ {k n m : ℕ} {large small : List ℕ} {φ : ℕ → ℕ} (p : Inside k
         let others = sum-cong k _ _ (λ z l. ap (λ x. F (C .automaton .move (φ i) z) (x * w z)) (q .same i h)) in
         omega (arith, last, others))
 
-    to-place : (t : ℕ) → t < m → (x : ℕ) (a b : Move ℕ) → Placed φ m a b
+    to-index : (t : ℕ) → t < m → (x : ℕ) (a b : Move ℕ) → Indexed φ m a b
         → after a 0 (λ r. only (eqb r (φ t)) x) ≡ after b 0 (λ r. only (eqb r t) x)
     unfolding Alike
-    to-place t l x (quiet i) (quiet j) o = ap (λ b. only b x) (ap (λ y. eqb y (φ t)) (o .1) ∙ same-test φ m (p .apart) j t (o .0) l)
-    to-place t l x (quiet i) signal o = absurd o
-    to-place t l x signal (quiet j) o = absurd o
-    to-place t l x signal signal o = refl
+    to-index t l x (quiet i) (quiet j) o = ap (λ b. only b x) (ap (λ y. eqb y (φ t)) (o .1) ∙ same-test φ m (p .apart) j t (o .0) l)
+    to-index t l x (quiet i) signal o = absurd o
+    to-index t l x signal (quiet j) o = absurd o
+    to-index t l x signal signal o = refl
 
-    elsewhere : (s : ℕ) → ((i : ℕ) → i < m → φ i ≡ s → ⊥) → (x : ℕ) (a b : Move ℕ) → Placed φ m a b
+    elsewhere : (s : ℕ) → ((i : ℕ) → i < m → φ i ≡ s → ⊥) → (x : ℕ) (a b : Move ℕ) → Indexed φ m a b
         → after a 0 (λ r. only (eqb r s) x) ≡ 0
     unfolding Alike
     elsewhere s d x (quiet i) (quiet j) o = ap (λ b. only b x) (ne-eqb i s (λ e. d j (o .0) (sym (o .1) ∙ e)))
     elsewhere s d x (quiet i) signal o = absurd o
     elsewhere s d x signal (quiet j) o = absurd o
     elsewhere s d x signal signal o = refl
-
-    to-signal : (x : ℕ) (a b : Move ℕ) → Placed φ m a b → after a x (λ r. 0) ≡ after b x (λ r. 0)
-    unfolding Alike
-    to-signal x (quiet i) (quiet j) o = refl
-    to-signal x (quiet i) signal o = absurd o
-    to-signal x signal (quiet j) o = absurd o
-    to-signal x signal signal o = refl
 
     none-brought : (s : ℕ) (a : Move ℕ) → after a 0 (λ r. only (eqb r s) 0) ≡ 0
     none-brought s (quiet i) = only-none (eqb i s)
@@ -139,7 +133,7 @@ module _ {k n m : ℕ} {large small : List ℕ} {φ : ℕ → ℕ} (p : Inside k
     unfolding inflow
     same-inflow t l =
         gather (λ a x. after a 0 (λ r. only (eqb r (φ t)) x)) (none-brought (φ t))
-        ∙ sum-cong m _ _ (λ i h. sum-cong k _ _ (λ z g. to-place t l (v i * w z) _ _ (p .moves i z h g)))
+        ∙ sum-cong m _ _ (λ i h. sum-cong k _ _ (λ z g. to-index t l (v i * w z) _ _ (p .moves i z h g)))
 
     no-inflow : (s : ℕ) → ((i : ℕ) → i < m → φ i ≡ s → ⊥) → inflow C u s ≡ 0
     unfolding inflow
@@ -151,7 +145,7 @@ module _ {k n m : ℕ} {large small : List ℕ} {φ : ℕ → ℕ} (p : Inside k
     unfolding signalled
     same-signalled =
         gather (λ a x. after a x (λ r. 0)) none-signalled
-        ∙ sum-cong m _ _ (λ i h. sum-cong k _ _ (λ z g. to-signal (v i * w z) _ _ (p .moves i z h g)))
+        ∙ sum-cong m _ _ (λ i h. sum-cong k _ _ (λ z g. to-signal (λ x y. (y < m) × (x ≡ φ y)) (v i * w z) _ _ (p .moves i z h g)))
 
   held : (c : ℕ) → Held (units C c) (units D c)
   unfolding units

@@ -7,6 +7,7 @@ pub mod Named
 pub mod NamedLaws
 pub mod Counted
 pub mod CountedLaws
+pub mod RefusedCallLaws
 pub mod Demand1
 pub mod Demand2
 pub mod Demand3
@@ -14,8 +15,15 @@ pub mod FewestStates
 pub mod Centre
 pub mod InsideLaws
 pub mod WithoutCentreLaws
+pub mod CentreLineLaws
 pub mod CentreLine
+pub mod EightZonesLaws
 pub mod EightZones
+pub mod ShiftedCoreLaws
 pub mod ShiftedCore
+pub mod Examples
+pub mod MarkedLaws
 pub mod Marked
+pub mod Plotted
+pub mod BoxPlotLaws
 pub mod BoxPlot

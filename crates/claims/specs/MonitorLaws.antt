@@ -14,7 +14,7 @@ use Rattle.monitor.specs.Step.{freshMonitor}
 use Rattle.window.specs.ReferenceChart.{rowMask, chartBy, chartStep, chartAnswers}
 use Rattle.monitor.specs.Calls.{monitorAnswers, Said, EachAnswer}
 use Rattle.runlength.specs.Sequence.{AllBelow}
-use Rattle.monitor.specs.Agreement.{agreement, no-refused-call}
+use Rattle.monitor.specs.AgreementLaws.{monitor-agrees, no-refused-call}
 use Rattle.claims.specs.Exact.{freeAnswers}
 
 -- a call that is taken is answered as the chart that refuses none does
@@ -43,5 +43,5 @@ unrefused-free rs (z ∷ zs) row h =
 pub monitor-free : (l : RuleList) → checkOf l ≡ Accepted → (zs : List ℕ) → AllBelow zoneCount zs → length zs ≤ maxNumber
     → monitorAnswers l freshMonitor zs ≡ freeAnswers (activeRules l) [] zs
 monitor-free l a zs i h =
-    let u : EachAnswer Said (chartAnswers (activeRules l) [] zs) = rw (agreement l a zs) at (no-refused-call l a zs i h) in
-    agreement l a zs ∙ unrefused-free (activeRules l) zs [] u
+    let u : EachAnswer Said (chartAnswers (activeRules l) [] zs) = rw (monitor-agrees l a zs) at (no-refused-call l a zs i h) in
+    monitor-agrees l a zs ∙ unrefused-free (activeRules l) zs [] u

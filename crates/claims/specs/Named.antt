@@ -10,10 +10,10 @@ use Rattle.rules.specs.Mask.{bit}
 use Rattle.window.specs.ReferenceChart.{Answer, refused, quiet, signal, ruleHolds}
 
 -- the zones of the accepted points since the chart was cleared, the newest first: a refused call leaves them, a signal empties them
-abbrev pub pointsAfter : List ℕ → ℕ → Answer → List ℕ
-pointsAfter row z (refused n) = row
-pointsAfter row z (quiet count) = z ∷ row
-pointsAfter row z (signal count mask) = []
+abbrev pub rowAfter : List ℕ → ℕ → Answer → List ℕ
+rowAfter row z (refused n) = row
+rowAfter row z (quiet count) = z ∷ row
+rowAfter row z (signal count mask) = []
 
 -- bit i of the mask is set exactly when rule i's T(k,m,Z) holds over the points, and no bit beyond the rules is ever set
 pub record Names (rs : List Rule) (points : List ℕ) (mask : ℕ) : Type 0 where
@@ -41,4 +41,4 @@ unfoldable pub EachAnswered : List Rule → List ℕ → List ℕ → List Answe
 EachAnswered rs row [] [] = Unit {0}
 EachAnswered rs row [] (a ∷ answers) = ⊥
 EachAnswered rs row (z ∷ zs) [] = ⊥
-EachAnswered rs row (z ∷ zs) (a ∷ answers) = Answered rs row z a × EachAnswered rs (pointsAfter row z a) zs answers
+EachAnswered rs row (z ∷ zs) (a ∷ answers) = Answered rs row z a × EachAnswered rs (rowAfter row z a) zs answers

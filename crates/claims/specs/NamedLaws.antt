@@ -1,8 +1,8 @@
 -- The plain chart's calls say what demand 2 asks of them. Laws.
-use mathlib.Core.Path.{_≡_, refl, sym, ap, _∙_}
-use mathlib.Core.Bool.{Bool, true, false, cond}
+use mathlib.Core.Path.{_≡_, refl, ap, _∙_}
+use mathlib.Core.Bool.{Bool, true, false}
 use mathlib.Core.List.{List, [], _∷_, map}
-use Prim.Native.Nat.{ℕ, zero, suc, _+_, _*_, _/_, _%_, _^_, _≤_, _<_}
+use Prim.Native.Nat.{ℕ, zero, suc, _+_, _*_, _≤_, _<_}
 use native.Mathlib.Omega.{arith}
 use lib.Dec.{ltb, eqb}
 use lib.ListN.{length, getD}
@@ -11,15 +11,12 @@ use Rattle.rules.specs.declared.Rule.{Rule}
 use Rattle.rules.specs.Bounds.{zoneCount, maxNumber}
 use Rattle.rules.specs.Check.{noRule}
 use Rattle.rules.specs.Mask.{bit, maskOf}
-use Rattle.window.specs.ReferenceChart.{Answer, refused, quiet, signal, ruleHolds, rowMask, chartStep, chartAnswers}
-use Rattle.monitor.specs.Agreement.{mask-names-rules, mask-digit}
-use Rattle.claims.specs.Named.{pointsAfter, Names, NoneHolds, SomeHolds, Answered, EachAnswered}
+use Rattle.window.specs.ReferenceChart.{ruleHolds, rowMask, chartStep, chartAnswers}
+use Rattle.rules.specs.MaskLaws.{bit-zero, mask-digit}
+use Rattle.monitor.specs.AgreementLaws.{mask-names-rules}
+use Rattle.claims.specs.Named.{rowAfter, Names, NoneHolds, SomeHolds, Answered, EachAnswered}
 
 -- ---- the mask of a list of tests is 0 exactly where none holds
-
-bit-zero : (t : Bool) (x : ℕ) → bit t + 2 * x ≡ 0 → (t ≡ false) × (x ≡ 0)
-bit-zero true x e = absurd (omega arith)
-bit-zero false x e = (refl, omega arith)
 
 none-of : (row : List ℕ) (rs : List Rule) → maskOf (map (ruleHolds row) rs) ≡ 0 → (i : ℕ) → i < length rs → ruleHolds row (getD rs i noRule) ≡ false
 unfolding maskOf
@@ -73,7 +70,7 @@ chart-answered rs row (z ∷ zs) =
     one : (zone count none : Bool) → ltb z zoneCount ≡ zone → ltb (length row) maxNumber ≡ count → eqb (rowMask rs (z ∷ row)) 0 ≡ none
         → ((r : List ℕ) → EachAnswered rs r zs (chartAnswers rs r zs))
         → Answered rs row z (chartStep rs row z .answer)
-        × EachAnswered rs (pointsAfter row z (chartStep rs row z .answer)) zs (chartAnswers rs (chartStep rs row z .row) zs)
+        × EachAnswered rs (rowAfter row z (chartStep rs row z .answer)) zs (chartAnswers rs (chartStep rs row z .row) zs)
     one true true true d e f ih = rw (d, e, f) ((mask-none rs (z ∷ row) (eqb-true _ 0 f), refl), ih (z ∷ row))
     one true true false d e f ih = rw (d, e, f) ((mask-some rs (z ∷ row) (eqb-false _ 0 f), mask-names rs (z ∷ row), refl), ih [])
     one true false n d e f ih = rw (d, e) (tt, ih row)

@@ -10,15 +10,15 @@ use Rattle.runlength.specs.Sum.{at}
 use Rattle.runlength.specs.Automaton.{Move, quiet, signal}
 use Rattle.runlength.specs.Future.{Alike}
 use Rattle.runlength.specs.ListedLaws.{entry-in}
-use Rattle.runlength.specs.FewestLaws.{different-below}
+use Rattle.runlength.specs.PigeonholeLaws.{different-below}
 use Rattle.monitor.specs.Zone.{zoneC0}
 use Rattle.states.specs.States.{Met, start, more, states, moves}
-use Rattle.states.specs.Places.{At}
+use Rattle.runlength.specs.Index.{At}
 use Rattle.states.specs.StatesLaws.{states-some, states-first, states-distinct, states-met, explored-simulation}
 use Rattle.chain.specs.TableChain.{exploredCount, stateCount, chainMoves, tableAutomaton}
 use Rattle.chain.specs.TableChainLaws.{count-some, count-explored}
 use Rattle.claims.specs.Centre.{withoutCentre}
-use Rattle.claims.specs.InsideLaws.{Placed, Inside}
+use Rattle.claims.specs.InsideLaws.{Indexed, Inside}
 
 module _ (rs : List Rule) where
   -- what is met with no point in C0
@@ -38,7 +38,7 @@ module _ (rs : List Rule) where
       (states-distinct (withoutCentre rs) .apart)
 
   -- a pair of moves, the other way round
-  turned : (a b : Move ℕ) → Alike (At own) b a → Placed (at own) (length own) a b
+  turned : (a b : Move ℕ) → Alike (At own) b a → Indexed (at own) (length own) a b
   unfolding Alike
   turned (quiet x) (quiet y) p = (p .below, sym (p .is))
   turned (quiet x) signal p = absurd p

@@ -1,4 +1,4 @@
--- Laws of a row of fields.
+-- Laws of fields one behind the other.
 use Prim.Native.Nat.{ℕ}
 use mathlib.Core.Path.{_≡_, sym}
 use mathlib.Core.List.{List, [], _∷_, _++_, append-assoc, append-nil}

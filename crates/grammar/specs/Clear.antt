@@ -5,7 +5,7 @@ use mathlib.Core.Path.{_≡_}
 use mathlib.Core.Bool.{Bool, true, false, cond}
 use mathlib.Core.List.{List, [], _∷_, _++_}
 use lib.Dec.{eqb, ltb}
-use Rattle.grammar.specs.Row.{Field, number, signed}
+use Rattle.grammar.specs.LineValues.{Field, number, signed}
 use Rattle.grammar.specs.Form.{Kind, named, Form, line, either}
 use Rattle.grammar.specs.Grammar.{once, often, perhaps, Grammar}
 

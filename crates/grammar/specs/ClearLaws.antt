@@ -5,7 +5,7 @@ use mathlib.Core.List.{List, [], _∷_, _++_}
 use mathlib.Core.Option.{Option, none as nothing, some}
 use Prim.Native.Nat.{ℕ}
 use lib.IntN.{ℤ, pos, negsuc}
-use Rattle.grammar.specs.Row.{Field, number, signed, Value, Row}
+use Rattle.grammar.specs.LineValues.{Field, number, signed, Value, Values}
 use Rattle.grammar.specs.Form.{Kind, named, Says, Saying, Form, line, either, Said, saying}
 use Rattle.grammar.specs.Grammar.{once, often, perhaps, Grammar, Contents, manyLines, anyLine, linesOf, Begun}
 use Rattle.grammar.specs.Clear.{wordNumber, Other, Apart, Plain, NotFirst, Ordered}
@@ -17,12 +17,12 @@ some-value : (f : Field) → Value f
 some-value number = 0
 some-value signed = pos 0
 
-some-row : (fs : List Field) → Row fs
-some-row [] = tt
-some-row (f ∷ fs) = (some-value f, some-row fs)
+some-values : (fs : List Field) → Values fs
+some-values [] = tt
+some-values (f ∷ fs) = (some-value f, some-values fs)
 
 some-told : (k : Kind) → Says k
-some-told (named w fs) = some-row fs
+some-told (named w fs) = some-values fs
 
 some-said : (f : Form) → Said f
 some-said (line k) = some-told k
@@ -54,8 +54,8 @@ saying-apart (line k) (either f g) a x (inr y) e = saying-apart (line k) g (a .1
 saying-apart (either f h) g a (inl x) y e = saying-apart f g (a .0) x y e
 saying-apart (either f h) g a (inr x) y e = saying-apart h g (a .1) x y e
 
--- the values of a row, in their order; a number as a signed one
-values : (fs : List Field) → Row fs → List ℤ
+-- values in their order; a number as a signed one
+values : (fs : List Field) → Values fs → List ℤ
 values [] x = []
 values (number ∷ fs) x = pos (x .0) ∷ values fs (x .1)
 values (signed ∷ fs) x = x .0 ∷ values fs (x .1)
@@ -64,16 +64,16 @@ natural : ℤ → ℕ
 natural (pos n) = n
 natural (negsuc n) = 0
 
-row-once : (fs : List Field) (x y : Row fs) → values fs x ≡ values fs y → x ≡ y
+values-once : (fs : List Field) (x y : Values fs) → values fs x ≡ values fs y → x ≡ y
 unfolding values natural
-row-once [] x y e = refl
-row-once (number ∷ fs) x y e =
+values-once [] x y e = refl
+values-once (number ∷ fs) x y e =
     let h : x .0 ≡ y .0 = ap natural (same-head e) in
-    let t = row-once fs (x .1) (y .1) (same-tail e) in
+    let t = values-once fs (x .1) (y .1) (same-tail e) in
     λ i. (h i, t i)
-row-once (signed ∷ fs) x y e =
+values-once (signed ∷ fs) x y e =
     let h : x .0 ≡ y .0 = same-head e in
-    let t = row-once fs (x .1) (y .1) (same-tail e) in
+    let t = values-once fs (x .1) (y .1) (same-tail e) in
     λ i. (h i, t i)
 
 valuesFor : (k : Kind) → Says k → List ℤ
@@ -81,7 +81,7 @@ valuesFor (named w fs) x = values fs x
 
 told-once : (k : Kind) (x y : Says k) → _≡_ {A = Saying} (k, x) (k, y) → x ≡ y
 unfolding valuesFor
-told-once (named w fs) x y e = row-once fs x y (ap (λ (m : Saying). valuesFor (m .0) (m .1)) e)
+told-once (named w fs) x y e = values-once fs x y (ap (λ (m : Saying). valuesFor (m .0) (m .1)) e)
 
 saying-once : (f : Form) → Plain f → (x y : Said f) → saying f x ≡ saying f y → x ≡ y
 unfolding saying

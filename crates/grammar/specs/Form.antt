@@ -2,7 +2,7 @@
 use Prim.Native.Nat.{ℕ}
 use mathlib.Core.Logic.{_⊎_, inl, inr}
 use mathlib.Core.List.{List, _++_}
-use Rattle.grammar.specs.Row.{Field, Row, rowBytes, RowFits}
+use Rattle.grammar.specs.LineValues.{Field, Values, valuesBytes, ValuesFit}
 
 -- a kind of line: its keyword, and its fields
 pub data Kind : Type 0 where
@@ -10,15 +10,15 @@ pub data Kind : Type 0 where
 
 -- what a line of the kind says: the values of its fields
 abbrev pub Says : Kind → Type 0
-Says (named word fs) = Row fs
+Says (named word fs) = Values fs
 
 -- its bytes, LF included
 abbrev pub lineBytes : (k : Kind) → Says k → List ℕ
-lineBytes (named word fs) x = word ++ rowBytes fs x
+lineBytes (named word fs) x = word ++ valuesBytes fs x
 
 -- its numbers, each within 32 bits
 abbrev pub LineFits : (k : Kind) → Says k → Type 0
-LineFits (named word fs) x = RowFits fs x
+LineFits (named word fs) x = ValuesFit fs x
 
 -- a line, by its kind and what it says
 abbrev pub Saying : Type 0

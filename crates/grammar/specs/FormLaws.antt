@@ -13,15 +13,15 @@ use Rattle.grammar.specs.NewlineLaws.{newlines-append}
 use lib.Dec.{leb}
 use borrow.Author.Tests.{ne-eqb, leb-true, leb-false}
 use Rattle.decimal.specs.SpansLaws.{spans-within}
-use Rattle.grammar.specs.Row.{Field, Row, rowBytes, RowFits}
+use Rattle.grammar.specs.LineValues.{Field, Values, valuesBytes, ValuesFit}
 use Rattle.grammar.specs.Form.{Kind, named, Says, Saying, lineBytes, LineFits, bytesSaid, Fits}
 use Rattle.grammar.specs.Form.{Form, line, either, Said, saying}
 use Rattle.grammar.specs.Clear.{wordNumber}
 use Rattle.grammar.specs.Told.{Letters, Proper, Agree}
 use Rattle.grammar.specs.Blocks.{Begins}
-use Rattle.grammar.specs.Reading.{Seen, found, other, onSeen, rowAt, seenKind, orSeen, seen}
-use Rattle.grammar.specs.RowLaws.{WordRowIs, word-row-is, word-row-read, leastRow, row-long, newlines-row}
-use Rattle.grammar.specs.RowLaws.{Begun, row-begun, word-once, fields-told}
+use Rattle.grammar.specs.TextReading.{Seen, found, other, onSeen, valuesAt, seenKind, orSeen, seen}
+use Rattle.grammar.specs.LineValuesLaws.{WordValuesAre, word-values-are, word-values-read, leastValues, values-long, newlines-values}
+use Rattle.grammar.specs.LineValuesLaws.{Begun, values-begun, word-once, fields-told}
 
 -- ---- a line stands in a text, up to the offset `next`
 
@@ -33,15 +33,15 @@ pub record Stands (s : List ℕ) (at : ℕ) (m : Saying) (next : ℕ) : Type 0 w
 
 -- the fewest bytes of a line
 abbrev pub leastOf : Kind → ℕ
-leastOf (named w fs) = length w + leastRow fs
+leastOf (named w fs) = length w + leastValues fs
 
 -- it reaches ahead, within the text
 pub tells-ahead : {s : List ℕ} {at next : ℕ} (k : Kind) (x : Says k) → Stands s at (k, x) next
     → (at + leastOf k ≤ next) × (at < next) × (next ≤ length s)
 tells-ahead (named w fs) x i =
-    let l = length-append w (rowBytes fs x) in
-    let b = row-long fs x in
-    let t = spans-within (w ++ rowBytes fs x) (omega (arith, l, b)) (i .spans) in
+    let l = length-append w (valuesBytes fs x) in
+    let b = values-long fs x in
+    let t = spans-within (w ++ valuesBytes fs x) (omega (arith, l, b)) (i .spans) in
     (omega (arith, l, b, i .spans .end), omega (arith, l, b, i .spans .end), t)
 
 letters-newlines : (w : List ℕ) → Letters w → newlines w ≡ 0
@@ -52,35 +52,35 @@ letters-newlines (b ∷ w) i = rw (ne-eqb b 10 (omega (arith, i .0)), letters-ne
 -- it has one LF
 pub one-newline : (k : Kind) (x : Says k) → Proper k → LineFits k x → newlines (lineBytes k x) ≡ 1
 one-newline (named w fs) x p r =
-    omega (arith, newlines-append w (rowBytes fs x), letters-newlines w p, newlines-row fs x)
+    omega (arith, newlines-append w (valuesBytes fs x), letters-newlines w p, newlines-values fs x)
 
 -- and some bytes
 tells-some : (k : Kind) (x : Says k) → LineFits k x → 1 ≤ length (lineBytes k x)
-tells-some (named w fs) x r = omega (arith, length-append w (rowBytes fs x), row-long fs x)
+tells-some (named w fs) x r = omega (arith, length-append w (valuesBytes fs x), values-long fs x)
 
 -- a line that stands there, or none of the kind does
-abbrev pub Kept : List ℕ → ℕ → (k : Kind) → Seen (Says k) → Type 0
-Kept s at k (found x next) = Stands s at (k, x) next
-Kept s at k other = (x : Says k) (next : ℕ) → Stands s at (k, x) next → ⊥
+abbrev pub SeenKept : List ℕ → ℕ → (k : Kind) → Seen (Says k) → Type 0
+SeenKept s at k (found x next) = Stands s at (k, x) next
+SeenKept s at k other = (x : Says k) (next : ℕ) → Stands s at (k, x) next → ⊥
 
 abbrev isFound : {A : Type 0} → Seen A → ℕ
 isFound (found x next) = 1
 isFound other = 0
 
-pub kept : (s : List ℕ) (at : ℕ) (k : Kind) → Kept s at k (seenKind k s at)
+pub kept : (s : List ℕ) (at : ℕ) (k : Kind) → SeenKept s at k (seenKind k s at)
 unfolding seenKind
-kept s at (named w fs) = go (rowAt w fs s at) refl (word-row-is s w fs at)
+kept s at (named w fs) = go (valuesAt w fs s at) refl (word-values-are s w fs at)
   where
-    go : (y : Seen (Row fs)) → rowAt w fs s at ≡ y → WordRowIs s w fs at y → Kept s at (named w fs) y
+    go : (y : Seen (Values fs)) → valuesAt w fs s at ≡ y → WordValuesAre s w fs at y → SeenKept s at (named w fs) y
     go (found x next) e i = record { spans = i .0; fits = i .1 }
     go other e i = λ x next j.
-        let z : _≡_ {A = ℕ} 0 1 = ap isFound (sym e ∙ word-row-read w fs x (j .spans) (j .fits)) in
+        let z : _≡_ {A = ℕ} 0 1 = ap isFound (sym e ∙ word-values-read w fs x (j .spans) (j .fits)) in
         absurd (omega arith)
 
 pub stands-seen : {s : List ℕ} {at next : ℕ} (k : Kind) (x : Says k) → Stands s at (k, x) next
     → seenKind k s at ≡ found x next
 unfolding seenKind
-stands-seen (named w fs) x i = word-row-read w fs x (i .spans) (i .fits)
+stands-seen (named w fs) x i = word-values-read w fs x (i .spans) (i .fits)
 
 -- bytes that begin with a line
 pub stands-of : {s : List ℕ} {at : ℕ} (m : Saying) (behind : List ℕ) → Fits m → drop at s ≡ bytesSaid m ++ behind
@@ -96,28 +96,28 @@ stands-of {s} {at} m behind r e = record { spans = record { text = rw later e; e
 pub same-line : (k j : Kind) (x : Says k) (y : Says j) (a b : List ℕ) → Agree k j → Proper k → Proper j
     → LineFits k x → LineFits j y → lineBytes k x ++ a ≡ lineBytes j y ++ b → _≡_ {A = Saying} (k, x) (j, y)
 same-line (named w fs) (named v gs) x y a b g p o r q e =
-    sym (ap sayOf one) ∙ ap₂ (λ (u : List ℕ) (hs : List Field). onSeen (rowAt u hs s 0) (λ z n. said′ u hs z) (named w fs, x)) ew ef ∙ ap (λ (t : Seen (Row gs)). onSeen t (λ z n. said′ v gs z) (named w fs, x)) two
+    sym (ap sayOf one) ∙ ap₂ (λ (u : List ℕ) (hs : List Field). onSeen (valuesAt u hs s 0) (λ z n. said′ u hs z) (named w fs, x)) ew ef ∙ ap (λ (t : Seen (Values gs)). onSeen t (λ z n. said′ v gs z) (named w fs, x)) two
   where
     s : List ℕ
-    s = (w ++ rowBytes fs x) ++ a
+    s = (w ++ valuesBytes fs x) ++ a
 
-    said′ : (u : List ℕ) (hs : List Field) → Row hs → Saying
+    said′ : (u : List ℕ) (hs : List Field) → Values hs → Saying
     said′ u hs z = (named u hs, z)
 
-    sayOf : Seen (Row fs) → Saying
+    sayOf : Seen (Values fs) → Saying
     sayOf t = onSeen t (λ z n. said′ w fs z) (named w fs, x)
 
-    one : rowAt w fs s 0 ≡ found x (0 + length (w ++ rowBytes fs x))
-    one = let i = stands-of {s = s} {at = 0} (named w fs, x) a r refl in word-row-read w fs x (i .spans) (i .fits)
+    one : valuesAt w fs s 0 ≡ found x (0 + length (w ++ valuesBytes fs x))
+    one = let i = stands-of {s = s} {at = 0} (named w fs, x) a r refl in word-values-read w fs x (i .spans) (i .fits)
 
-    two : rowAt v gs s 0 ≡ found y (0 + length (v ++ rowBytes gs y))
-    two = let i = stands-of {s = s} {at = 0} (named v gs, y) b q e in word-row-read v gs y (i .spans) (i .fits)
+    two : valuesAt v gs s 0 ≡ found y (0 + length (v ++ valuesBytes gs y))
+    two = let i = stands-of {s = s} {at = 0} (named v gs, y) b q e in word-values-read v gs y (i .spans) (i .fits)
 
-    c : Begun (rowBytes fs x)
-    c = row-begun fs x
+    c : Begun (valuesBytes fs x)
+    c = values-begun fs x
 
-    d : Begun (rowBytes gs y)
-    d = row-begun gs y
+    d : Begun (valuesBytes gs y)
+    d = values-begun gs y
 
     ew : w ≡ v
     ew =
@@ -172,7 +172,7 @@ module _ (s : List ℕ) (at : ℕ) where
   unfolding seen saying
   form-kept (line k) = go (seenKind k s at) (kept s at k)
     where
-      go : (y : Seen (Says k)) → Kept s at k y → FormKept (line k) y
+      go : (y : Seen (Says k)) → SeenKept s at k y → FormKept (line k) y
       go (found x next) i = i
       go other i = i
   form-kept (either f g) = go (seen f s at) (seen g s at) (form-kept f) (form-kept g)
@@ -199,9 +199,9 @@ module _ (s : List ℕ) (at : ℕ) (f : Form) where
       go other n = λ b. n (b .says) _ (stands-of (saying f (b .says)) (b .behind) (b .fits) (b .bytes))
 
 -- what is seen of a kind is within 32 bits
-pub seen-fits : (w : List ℕ) (fs : List Field) (s : List ℕ) (at : ℕ) {x : Row fs} {next : ℕ} → seen (line (named w fs)) s at ≡ found x next → RowFits fs x
+pub seen-fits : (w : List ℕ) (fs : List Field) (s : List ℕ) (at : ℕ) {x : Values fs} {next : ℕ} → seen (line (named w fs)) s at ≡ found x next → ValuesFit fs x
 unfolding saying
 seen-fits w fs s at {x} {next} e = go (seen (line (named w fs)) s at) (looked s at (line (named w fs))) e
   where
-    go : (y : Seen (Row fs)) → Look s at (line (named w fs)) y → y ≡ found x next → RowFits fs x
+    go : (y : Seen (Values fs)) → Look s at (line (named w fs)) y → y ≡ found x next → ValuesFit fs x
     go y i e = (rw e at i) .fits

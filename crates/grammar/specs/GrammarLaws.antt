@@ -1,5 +1,4 @@
--- CLAIMS: of every clear grammar. Bytes are the text of some contents, or they stop being one at some line, never both;
--- the contents and the line are unique; and what is read is exactly these.
+-- Bytes are a text or stop being one, never both; what is read is so. Laws.
 use Prim.Native.Nat.{ℕ, _+_}
 use mathlib.Core.Path.{_≡_, refl, sym, ap, _∙_}
 use mathlib.Core.Bool.{Bool, true, false, cond}
@@ -10,19 +9,18 @@ use lib.Dec.{leb}
 use lib.ListN.{length}
 use borrow.Author.Tests.{leb-true, leb-false}
 use Rattle.grammar.specs.Size.{maxText}
-use Rattle.grammar.specs.Newlines.{newlines}
 use Rattle.grammar.specs.Form.{Saying, bytesSaid}
 use Rattle.grammar.specs.ToldLaws.{AllIn, all-front, lines-in}
 use Rattle.grammar.specs.Grammar.{Grammar, Contents, linesOf, bytesOfAll, AllFit, TextIs, Stops}
 use Rattle.grammar.specs.Clear.{Clear, kindsOf}
-use Rattle.grammar.specs.Reading.{Reading, read, stopped, long, readAt, readText}
+use Rattle.grammar.specs.TextReading.{Reading, read, stopped, long, readAt, readText}
 use Rattle.grammar.specs.Read.{ReadingIs, too-long, wrong, right}
 use Rattle.grammar.specs.FormLaws.{some-bytes}
-use Rattle.grammar.specs.LinesLaws.{newlines-all, Onward, longer, shorter, onward}
+use Rattle.grammar.specs.LinesLaws.{Onward, longer, shorter, onward}
 use Rattle.grammar.specs.ClearLaws.{contents-same}
 use Rattle.grammar.specs.Blocks.{StopsBy}
-use Rattle.grammar.specs.StopsLaws.{stops-by}
-use Rattle.grammar.specs.ReadingLaws.{Right, sound}
+use Rattle.grammar.specs.TextStopsLaws.{stops-by}
+use Rattle.grammar.specs.TextReadingLaws.{Right, sound}
 
 -- All bytes are a text, or stop being one at some line.
 pub text-or-stops : (g : Grammar) → Clear g → (s : List ℕ) → ((c : Contents g) × TextIs g c s) ⊎ ((n : ℕ) × Stops g s n)
@@ -47,7 +45,7 @@ no-longer {g} st c d ds behind a i e h =
     (h ∙ append-assoc (bytesSaid d) (bytesOfAll ds) a)
 
 -- the lines before the stop are of the grammar's kinds
-front-in : {g : Grammar} {s : List ℕ} {n : ℕ} (st : Stops g s n) → AllIn (kindsOf g) (st .front)
+pub front-in : {g : Grammar} {s : List ℕ} {n : ℕ} (st : Stops g s n) → AllIn (kindsOf g) (st .front)
 front-in {g} st =
     all-front (st .front) (st .begun .behind) (rw (st .begun .lines) at (lines-in g (st .begun .contents)))
 
@@ -106,12 +104,6 @@ contents-once {g} k {c} {d} t u =
     go (shorter [] i e h) = e ∙ append-nil M
     go (shorter (x ∷ ds) i e h) = absurd (some-bytes x _ (i .0) (h ∙ append-assoc (bytesSaid x) (bytesOfAll ds) []))
 
--- The line is the one behind the LFs before it.
-pub line-newlines : {g : Grammar} → Clear g → {s : List ℕ} {n : ℕ} (st : Stops g s n)
-    → n ≡ 1 + newlines (bytesOfAll (st .front))
-line-newlines {g} k st =
-    omega (arith, st .place, newlines-all (kindsOf g) (k .1) (st .front) (front-in st) (st .fit))
-
 -- It stops there block by block, too.
 pub by-stops : (g : Grammar) → Clear g → {s : List ℕ} {n : ℕ} → Stops g s n → StopsBy g s n
 by-stops g k {s} {n} st = go (readAt g s 0 1) (sound s g 0 1)
@@ -148,6 +140,3 @@ reading-once g k s (wrong l t) (right h u) = absurd (not-both k u t)
 reading-once g k s (right l t) (too-long h) = absurd (omega arith)
 reading-once g k s (right l t) (wrong h u) = absurd (not-both k t u)
 reading-once g k s (right l t) (right h u) = ap (λ (c : Contents g). read c) (contents-once k t u)
-
-pub is-reading : (g : Grammar) → Clear g → (s : List ℕ) {r : Reading (Contents g)} → ReadingIs g s r → readText g s ≡ r
-is-reading g k s i = reading-once g k s (reading-is g k s) i

@@ -4,7 +4,7 @@ use mathlib.Core.List.{List}
 use lib.ListN.{length}
 use Rattle.grammar.specs.Size.{maxText}
 use Rattle.grammar.specs.Grammar.{Grammar, Contents, TextIs, Stops}
-use Rattle.grammar.specs.Reading.{Reading, read, stopped, long}
+use Rattle.grammar.specs.TextReading.{Reading, read, stopped, long}
 
 pub data ReadingIs (g : Grammar) (s : List ℕ) : Reading (Contents g) → Type 0 where
   too-long : maxText < length s → ReadingIs g s long

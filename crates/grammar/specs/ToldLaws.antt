@@ -1,13 +1,13 @@
 -- The lines of contents are of the grammar's kinds, and these agree. Laws.
 use Prim.Native.Nat.{ℕ}
-use mathlib.Core.Path.{_≡_, refl, sym, ap, _∙_}
-use mathlib.Core.Bool.{Bool, true, false, cond}
-use native.Mathlib.Omega.{arith}
+use mathlib.Core.Path.{_≡_, sym, ap, _∙_}
+use mathlib.Core.Bool.{Bool, true, cond}
 use lib.Dec.{eqb, ltb}
 use borrow.Author.Tests.{eq-eqb, eqb-true, ltb-true}
 use mathlib.Core.Logic.{inl, inr}
 use mathlib.Core.List.{List, [], _∷_, _++_}
 use mathlib.Core.Option.{Option, none, some}
+use Rattle.rules.specs.TestLaws.{both}
 use Rattle.grammar.specs.Form.{Kind, named, Saying, Form, line, either, Said, saying}
 use Rattle.grammar.specs.Grammar.{once, often, perhaps, Grammar, Contents, manyLines, anyLine, linesOf}
 use Rattle.grammar.specs.Clear.{wordNumber, fieldsNumber, letters, proper, agree, agreeAll, kindsIn, kindsOf}
@@ -16,10 +16,6 @@ use Rattle.grammar.specs.Told.{Letters, Proper, Agree, Told}
 pub data In (k : Kind) : List Kind → Type 0 where
   first : {ks : List Kind} → In k (k ∷ ks)
   later : {j : Kind} {ks : List Kind} → In k ks → In k (j ∷ ks)
-
-both : (a b : Bool) → cond a b false ≡ true → (a ≡ true) × (b ≡ true)
-both true b e = (refl, e)
-both false b e = let z : _≡_ {A = ℕ} 0 1 = cc in absurd (omega arith)
 
 letters-are : (w : List ℕ) → letters w ≡ true → Letters w
 letters-are [] e = tt

@@ -15,16 +15,16 @@ entryOf signal = maxStates
 
 module _ (n : ℕ) (m : List ℕ) where
   -- the chart of the n states that the list of moves gives
-  abbrev pub givenChart : Automaton ℕ
-  givenChart = listedAutomaton zoneCount n m
+  abbrev pub givenAutomaton : Automaton ℕ
+  givenAutomaton = listedAutomaton zoneCount n m
 
   -- how many of them differ
   unfoldable pub mergedCount : ℕ
-  mergedCount = classCount givenChart n
+  mergedCount = classCount givenAutomaton n
 
   -- the moves of the classes: class c by zone z at zoneCount * c + z
   unfoldable pub mergedMoves : List ℕ
-  mergedMoves = tab (zoneCount * mergedCount) (λ k. entryOf (mergedMove givenChart n (k / zoneCount) (k % zoneCount)))
+  mergedMoves = tab (zoneCount * mergedCount) (λ k. entryOf (mergedMove givenAutomaton n (k / zoneCount) (k % zoneCount)))
 
 -- what merging asks for: not too many states, their moves, and room for as many
 pub record Mergeable (n : ℕ) (m merged : List ℕ) : Type 0 where

@@ -15,16 +15,16 @@ use Rattle.runlength.specs.Future.{EqualFuture}
 use Rattle.runlength.specs.FutureLaws.{simulation-future, future-sym, future-trans, SameBelow, same-simulation}
 use Rattle.runlength.specs.Merged.{classOf, firstOf, mergedMove, mergedAutomaton}
 use Rattle.runlength.specs.MergedLaws.{class-below, count-most, first-of, merged-future}
-use Rattle.merge.specs.Merge.{entryOf, givenChart, mergedCount, mergedMoves}
+use Rattle.merge.specs.Merge.{entryOf, givenAutomaton, mergedCount, mergedMoves}
 
 module _ (n : ℕ) (m : List ℕ) where
   -- no quiet move leaves the n states
-  pub given-closed : (s z t : ℕ) → s < n → z < zoneCount → givenChart n m .move s z ≡ quiet t → t < n
+  pub given-closed : (s z t : ℕ) → s < n → z < zoneCount → givenAutomaton n m .move s z ≡ quiet t → t < n
   given-closed s z t h l = entry-in n (at m (zoneCount * s + z)) t
 
   pub merged-most : mergedCount n m ≤ n
   unfolding mergedCount
-  merged-most = count-most (givenChart n m) n
+  merged-most = count-most (givenAutomaton n m) n
 
   pub merged-length : length (mergedMoves n m) ≡ zoneCount * mergedCount n m
   unfolding mergedMoves
@@ -36,36 +36,36 @@ module _ (n : ℕ) (m : List ℕ) where
     entry-read (quiet t) f = rw (lt-ltb t (mergedCount n m) (f t refl))
     entry-read signal f = rw (le-ltb maxStates (mergedCount n m) (omega (arith, merged-most)))
 
-    class-in : (o : Move ℕ) → ((t : ℕ) → o ≡ quiet t → t < n) → (c : ℕ) → after o signal (λ t. quiet (classOf (givenChart n m) n t)) ≡ quiet c
+    class-in : (o : Move ℕ) → ((t : ℕ) → o ≡ quiet t → t < n) → (c : ℕ) → after o signal (λ t. quiet (classOf (givenAutomaton n m) n t)) ≡ quiet c
         → c < mergedCount n m
     unfolding mergedCount
     class-in (quiet t) f c e =
-        let d : classOf (givenChart n m) n t ≡ c = cc in
-        omega (arith, class-below (givenChart n m) n t (f t refl))
+        let d : classOf (givenAutomaton n m) n t ≡ c = cc in
+        omega (arith, class-below (givenAutomaton n m) n t (f t refl))
     class-in signal f c e = absurd (let x : _≡_ {A = ℕ} 0 1 = cc in omega arith)
 
     -- the listed chain of the merged moves goes as the merged chart does
     pub listed-merged : (c z : ℕ) → c < mergedCount n m → z < zoneCount
-        → listedAutomaton zoneCount (mergedCount n m) (mergedMoves n m) .move c z ≡ mergedMove (givenChart n m) n c z
+        → listedAutomaton zoneCount (mergedCount n m) (mergedMoves n m) .move c z ≡ mergedMove (givenAutomaton n m) n c z
     unfolding mergedMoves mergedMove mergedCount
     listed-merged c z h l =
-        let first = first-of (givenChart n m) n c h in
+        let first = first-of (givenAutomaton n m) n c h in
         let state : (zoneCount * c + z) / zoneCount ≡ c = omega arith in
         let zone : (zoneCount * c + z) % zoneCount ≡ z = omega arith in
-        let entry : at (mergedMoves n m) (zoneCount * c + z) ≡ entryOf (mergedMove (givenChart n m) n c z) =
+        let entry : at (mergedMoves n m) (zoneCount * c + z) ≡ entryOf (mergedMove (givenAutomaton n m) n c z) =
         getD-tab (zoneCount * mergedCount n m) _ (zoneCount * c + z) (omega arith)
-        ∙ ap₂ (λ i y. entryOf (mergedMove (givenChart n m) n i y)) state zone in
+        ∙ ap₂ (λ i y. entryOf (mergedMove (givenAutomaton n m) n i y)) state zone in
         rw entry
-        (entry-read (mergedMove (givenChart n m) n c z)
-        (class-in (givenChart n m .move (firstOf (givenChart n m) n c) z)
-        (λ t. given-closed (firstOf (givenChart n m) n c) z t (first .below) l)))
+        (entry-read (mergedMove (givenAutomaton n m) n c z)
+        (class-in (givenAutomaton n m .move (firstOf (givenAutomaton n m) n c) z)
+        (λ t. given-closed (firstOf (givenAutomaton n m) n c) z t (first .below) l)))
 
     -- The listed chain has, from the class of a state, the state's future.
     pub listed-future : (i : ℕ) → i < n
-        → EqualFuture (givenChart n m) (listedAutomaton zoneCount (mergedCount n m) (mergedMoves n m)) i (classOf (givenChart n m) n i)
+        → EqualFuture (givenAutomaton n m) (listedAutomaton zoneCount (mergedCount n m) (mergedMoves n m)) i (classOf (givenAutomaton n m) n i)
     unfolding mergedCount
     listed-future i h =
-        let given = givenChart n m in
+        let given = givenAutomaton n m in
         let listed = listedAutomaton zoneCount (mergedCount n m) (mergedMoves n m) in
         let merged = mergedAutomaton given n in
         let closed : (c z t : ℕ) → c < mergedCount n m → z < zoneCount → listed .move c z ≡ quiet t → t < mergedCount n m =

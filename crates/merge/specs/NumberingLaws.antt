@@ -17,7 +17,7 @@ use Rattle.runlength.specs.Merged.{leadBefore, leaderFor, leadersFor, classCoun
 use Rattle.runlength.specs.LeadLaws.{lead-one, lead-none, lead-less, lead-most, lead-cong}
 use Rattle.runlength.specs.ClassLaws.{leader-most, leader-leads}
 use Rattle.runlength.specs.MergedLaws.{class-leads, count-most, first-of}
-use Rattle.merge.specs.Merge.{entryOf, givenChart, mergedCount, mergedMoves, Mergeable}
+use Rattle.merge.specs.Merge.{entryOf, givenAutomaton, mergedCount, mergedMoves, Mergeable}
 use Rattle.merge.specs.Rounds.{labelOf, nextLeader, HasRoom, HoldsLeaders}
 use Rattle.merge.specs.RoundsLaws.{none-held, next-leader}
 use Rattle.merge.specs.Numbering.{Led, Numbered, Numberable, CanNumber, carried, CanCarry}
@@ -117,14 +117,14 @@ module _ {n : ℕ} {m classes firsts merged : List ℕ} {count : ℕ} (p : CanCa
 module _ {n : ℕ} {m l : List ℕ} (p : HoldsLeaders n m l n) where
   leaders-led : (i : ℕ) → i < n → Led l i
   leaders-led i h =
-      let most = leader-most (givenChart n m) n i in
+      let most = leader-most (givenAutomaton n m) n i in
       record {
         most = omega (arith, p .is i h);
-        leads = rw (p .is i h) (p .is (leaderFor (givenChart n m) n i) (omega arith) ∙ leader-leads (givenChart n m) n i);
+        leads = rw (p .is i h) (p .is (leaderFor (givenAutomaton n m) n i) (omega arith) ∙ leader-leads (givenAutomaton n m) n i);
       }
 
-  led-leaders : (i : ℕ) → i ≤ n → leadBefore (at l) i ≡ leadersFor (givenChart n m) n i
-  led-leaders i h = lead-cong (at l) (leaderFor (givenChart n m) n) i (λ j k. p .is j (omega arith))
+  led-leaders : (i : ℕ) → i ≤ n → leadBefore (at l) i ≡ leadersFor (givenAutomaton n m) n i
+  led-leaders i h = lead-cong (at l) (leaderFor (givenAutomaton n m) n) i (λ j k. p .is j (omega arith))
 
   module _ {classes firsts : List ℕ} {count : ℕ} (q : Numbered l classes firsts n count) where
     -- so many classes
@@ -132,32 +132,32 @@ module _ {n : ℕ} {m l : List ℕ} (p : HoldsLeaders n m l n) where
     unfolding mergedCount classCount
     numbered-count = q .counted ∙ led-leaders n (le-refl n)
 
-    numbered-class : (i : ℕ) → i < n → at classes i ≡ classOf (givenChart n m) n i
+    numbered-class : (i : ℕ) → i < n → at classes i ≡ classOf (givenAutomaton n m) n i
     unfolding classOf
     numbered-class i h =
-        let most = leader-most (givenChart n m) n i in
-        q .class-is i h ∙ ap (leadBefore (at l)) (p .is i h) ∙ led-leaders (leaderFor (givenChart n m) n i) (omega arith)
+        let most = leader-most (givenAutomaton n m) n i in
+        q .class-is i h ∙ ap (leadBefore (at l)) (p .is i h) ∙ led-leaders (leaderFor (givenAutomaton n m) n i) (omega arith)
 
     -- the first state of a class
-    numbered-first : (c : ℕ) → c < mergedCount n m → at firsts c ≡ firstOf (givenChart n m) n c
+    numbered-first : (c : ℕ) → c < mergedCount n m → at firsts c ≡ firstOf (givenAutomaton n m) n c
     unfolding mergedCount
     numbered-first c h =
-        let f = first-of (givenChart n m) n c h in
-        let s = firstOf (givenChart n m) n c in
+        let f = first-of (givenAutomaton n m) n c h in
+        let s = firstOf (givenAutomaton n m) n c in
         let number : leadBefore (at l) s ≡ c =
-        led-leaders s (omega (arith, f .below)) ∙ sym (class-leads (givenChart n m) n s (f .leads)) ∙ f .class in
+        led-leaders s (omega (arith, f .below)) ∙ sym (class-leads (givenAutomaton n m) n s (f .leads)) ∙ f .class in
         ap (at firsts) (sym number) ∙ q .first-is s (f .below) (p .is s (f .below) ∙ f .leads)
 
     pub first-below : (c : ℕ) → c < count → at firsts c < n
     unfolding mergedCount
     first-below c h =
         let i : c < mergedCount n m = omega (arith, numbered-count) in
-        omega (arith, numbered-first c i, first-of (givenChart n m) n c i .below)
+        omega (arith, numbered-first c i, first-of (givenAutomaton n m) n c i .below)
 
-    label-entry : (x : ℕ) → labelOf n classes x ≡ entryOf (after (entryMove n x) signal (λ t. quiet (classOf (givenChart n m) n t)))
+    label-entry : (x : ℕ) → labelOf n classes x ≡ entryOf (after (entryMove n x) signal (λ t. quiet (classOf (givenAutomaton n m) n t)))
     label-entry x = go (decLt x n)
       where
-        go : Dec (x < n) → labelOf n classes x ≡ entryOf (after (entryMove n x) signal (λ t. quiet (classOf (givenChart n m) n t)))
+        go : Dec (x < n) → labelOf n classes x ≡ entryOf (after (entryMove n x) signal (λ t. quiet (classOf (givenAutomaton n m) n t)))
         go (yes h) = rw (lt-ltb x n h) (numbered-class x h)
         go (no h) = let k : n ≤ x = omega arith in rw (le-ltb x n k)
 
@@ -167,10 +167,10 @@ module _ {n : ℕ} {m l : List ℕ} (p : HoldsLeaders n m l n) where
     unfolding front mergedMoves mergedMove
     carried-moves before after e =
         let same : (k : ℕ) → k < zoneCount * mergedCount n m
-        → carried n m classes firsts k ≡ entryOf (mergedMove (givenChart n m) n (k / zoneCount) (k % zoneCount)) =
+        → carried n m classes firsts k ≡ entryOf (mergedMove (givenAutomaton n m) n (k / zoneCount) (k % zoneCount)) =
         λ k h.
         ap (λ s. labelOf n classes (at m (zoneCount * s + k % zoneCount))) (numbered-first (k / zoneCount) (omega arith))
-        ∙ label-entry (at m (zoneCount * firstOf (givenChart n m) n (k / zoneCount) + k % zoneCount)) in
+        ∙ label-entry (at m (zoneCount * firstOf (givenAutomaton n m) n (k / zoneCount) + k % zoneCount)) in
         e ∙ ap (λ c. tab (zoneCount * c) (carried n m classes firsts) ++ drop (zoneCount * c) before) numbered-count
         ∙ ap (λ x. x ++ drop (zoneCount * mergedCount n m) before) (tab-cong (zoneCount * mergedCount n m) _ _ same)
 
@@ -180,7 +180,7 @@ module _ {n : ℕ} {m l : List ℕ} (p : HoldsLeaders n m l n) where
     unfolding mergedCount
     carry-can few moves classes-room firsts-room merged room = record {
       few = few;
-      fewer = omega (arith, numbered-count, count-most (givenChart n m) n);
+      fewer = omega (arith, numbered-count, count-most (givenAutomaton n m) n);
       first-below = first-below;
       moves-room = moves;
       classes-room = classes-room;

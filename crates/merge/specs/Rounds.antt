@@ -10,7 +10,7 @@ use Rattle.runlength.specs.Sum.{at, sum, front}
 use Rattle.runlength.specs.Lowest.{lowest}
 use Rattle.runlength.specs.Apart.{allOf}
 use Rattle.runlength.specs.Merged.{leaderFor}
-use Rattle.merge.specs.Merge.{givenChart}
+use Rattle.merge.specs.Merge.{givenAutomaton}
 
 -- what the list says of the state that an entry leads to, or `maxStates` for a signal
 abbrev pub labelOf : ℕ → List ℕ → ℕ → ℕ
@@ -38,7 +38,7 @@ module _ (n : ℕ) (m leaders : List ℕ) where
 
   -- the leaders by continuations of up to k points
   pub record HoldsLeaders (k : ℕ) : Type 0 where
-    pub is : (i : ℕ) → i < n → at leaders i ≡ leaderFor (givenChart n m) k i
+    pub is : (i : ℕ) → i < n → at leaders i ≡ leaderFor (givenAutomaton n m) k i
 
 -- what a round asks for: room, leaders that skip none, and room for the next leaders
 pub record Refinable (n : ℕ) (m leaders next : List ℕ) : Type 0 where

@@ -53,14 +53,14 @@ pub fresh-of-row : (rs : List Rule) → freshMonitor ≡ monitorOfRow rs []
 fresh-of-row rs = rw (empty-row-state rs)
 
 -- the answers agree, the monitor is then the one of the chart's row, and no rule holds on that row
-pub record Alike (rs : List Rule) (row : List ℕ) (s : Step) (t : Charted) : Type 0 where
+pub record CallAgrees (rs : List Rule) (row : List ℕ) (s : Step) (t : Charted) : Type 0 where
   pub answer : answerOf s ≡ t .answer
   pub after : monitorAfter (monitorOfRow rs row) s ≡ monitorOfRow rs (t .row)
   pub quiet-row : rowMask rs (t .row) ≡ 0
 
 module _ (rs : List Rule) (bounds : AllInBounds rs) (row : List ℕ) (e : rowMask rs row ≡ 0) (z : ℕ) where
   abbrev Agrees : Type 0
-  Agrees = Alike rs row (acceptedStep rs (monitorOfRow rs row) z) (chartStep rs row z)
+  Agrees = CallAgrees rs row (acceptedStep rs (monitorOfRow rs row) z) (chartStep rs row z)
 
   valid : validState (length row) rs (stateOfRow rs row) ≡ true
   valid = valid-of-row rs bounds row e

@@ -5,7 +5,7 @@ pub mod Take
 pub mod StepLaws
 pub mod Calls
 pub mod CallLaws
-pub mod Agreement
+pub mod AgreementLaws
 pub mod TakeLaws
 pub mod Reading
 pub mod ReadingLaws

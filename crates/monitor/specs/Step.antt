@@ -1,6 +1,5 @@
 -- TO BELIEVE: the monitor's step. Refusals in the order 2, 3, 4; 6; 5; 7. Definitions.
 use Prim.Native.Nat.{ℕ, _+_}
-use mathlib.Core.Bool.{Bool, cond}
 use mathlib.Core.List.{List}
 use lib.Dec.{ltb}
 use Rattle.rules.specs.declared.Rule.{Rule}
@@ -9,7 +8,7 @@ use Rattle.rules.specs.declared.Checked.{Checked}
 use Rattle.rules.specs.declared.Checked.the-variants.{Accepted}
 use Rattle.rules.specs.Bounds.{zoneCount, maxNumber}
 use Rattle.rules.specs.Refusal.{badState, badZone, badCount}
-use Rattle.rules.specs.Check.{checkOf, activeRules}
+use Rattle.rules.specs.Check.{orElse, unless, checkOf, activeRules}
 use Rattle.window.specs.State.{emptyState, validState, moveOf}
 use Rattle.window.specs.declared.Move.{Move}
 use Rattle.window.specs.declared.Move.the-variants.{Quiet, Signal}
@@ -31,21 +30,25 @@ abbrev pub stepAnswer : Move → ℕ → Step
 stepAnswer (Quiet t) count = Step.Quiet count (monitorAt t count)
 stepAnswer (Signal mask) count = Step.Signal count mask freshMonitor
 
--- by whether the zone, the state and the count can be given: 6, then 5, then 7, else the answer
-abbrev pub stepOrder : Bool → Bool → Bool → Step → Step
-stepOrder zone state count answer =
-    cond zone (cond state (cond count answer (Refused badCount)) (Refused badState)) (Refused badZone)
+-- what a point is refused by, with rules that are accepted: 6, then 5, then 7
+abbrev pub pointCheck : List Rule → Monitor → ℕ → Checked
+pointCheck rs m z =
+    orElse (unless (ltb z zoneCount) badZone)
+    (orElse (unless (validState (m .count) rs (m .state)) badState)
+    (unless (ltb (m .count) maxNumber) badCount))
+
+-- 2, 3 and 4 come first
+abbrev pub stepCheck : RuleList → Monitor → ℕ → Checked
+stepCheck l m z = orElse (checkOf l) (pointCheck (activeRules l) m z)
+
+-- the refusal, else the answer
+abbrev pub stepBy : Checked → Step → Step
+stepBy Accepted answer = answer
+stepBy (Checked.Refused x) answer = Refused x
 
 -- a step with rules that are accepted
 unfoldable pub acceptedStep : List Rule → Monitor → ℕ → Step
-acceptedStep rs m z =
-    stepOrder (ltb z zoneCount) (validState (m .count) rs (m .state)) (ltb (m .count) maxNumber)
-    (stepAnswer (moveOf rs (m .state) z) (m .count + 1))
-
--- 2, 3 and 4 come first
-abbrev pub stepBy : Checked → List Rule → Monitor → ℕ → Step
-stepBy Accepted rs m z = acceptedStep rs m z
-stepBy (Checked.Refused x) rs m z = Refused x
+acceptedStep rs m z = stepBy (pointCheck rs m z) (stepAnswer (moveOf rs (m .state) z) (m .count + 1))
 
 unfoldable pub stepOf : RuleList → Monitor → ℕ → Step
-stepOf l m z = stepBy (checkOf l) (activeRules l) m z
+stepOf l m z = stepBy (stepCheck l m z) (stepAnswer (moveOf (activeRules l) (m .state) z) (m .count + 1))

@@ -3,9 +3,11 @@ use mathlib.Core.Path.{_≡_, refl, _∙_}
 use mathlib.Core.Bool.{true, false}
 use mathlib.Core.List.{List}
 use Prim.Native.Nat.{ℕ, _+_, _≤_, _<_}
+use native.Mathlib.Omega.{arith}
 use borrow.Author.Tests.{lt-ltb, le-ltb}
 use Rattle.rules.specs.declared.Rule.{Rule}
 use Rattle.rules.specs.declared.RuleList.{RuleList}
+use Rattle.rules.specs.declared.refusal.Refusal.{Refusal}
 use Rattle.rules.specs.declared.Checked.the-variants.{Accepted}
 use Rattle.rules.specs.Bounds.{zoneCount, maxNumber}
 use Rattle.rules.specs.Check.{activeRules, checkOf}
@@ -25,8 +27,13 @@ use Rattle.window.specs.MoveLaws.{move-quiet, move-signal}
 
 pub rules-accepted : (l : RuleList) → checkOf l ≡ Accepted → (m : Monitor) (z : ℕ)
     → stepOf l m z ≡ acceptedStep (activeRules l) m z
-unfolding stepOf
+unfolding stepOf acceptedStep
 rules-accepted l ok m z = rw ok
+
+-- the answer to a point is no refusal
+pub answered : (t : Move) (count : ℕ) (x : Refusal) → stepAnswer t count ≡ Refused x → ⊥
+answered (Quiet s) count x e = let z : _≡_ {A = ℕ} 0 1 = cc in omega arith
+answered (Signal mask) count x e = let z : _≡_ {A = ℕ} 0 1 = cc in omega arith
 
 pub step-bad-zone : (rs : List Rule) (m : Monitor) (z : ℕ) → zoneCount ≤ z → acceptedStep rs m z ≡ Refused badZone
 unfolding acceptedStep

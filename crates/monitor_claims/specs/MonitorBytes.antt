@@ -1,107 +1,32 @@
 -- CLAIMS: the monitor program's text. It is accepted exactly where it is the lines of a chart, rules and points of the bench's nodes, and it then
 -- gives these; where it stops being one it is refused by 16, there, and at the first point of no node by 19.
 use Prim.Native.Nat.{ℕ, _+_, _≤_, _<_}
-use mathlib.Core.Path.{_≡_, refl, sym, ap, _∙_}
-use mathlib.Core.Bool.{Bool, true, false, cond}
-use mathlib.Core.List.{List, [], _∷_, _++_}
+use mathlib.Core.Path.{_≡_}
+use mathlib.Core.List.{List, _∷_}
 use native.Mathlib.Omega.{arith}
-use lib.Dec.{ltb}
 use lib.IntN.{ℤ}
-use lib.ListN.{length, length-append}
-use borrow.Author.Tests.{ltb-true, ltb-false, lt-ltb}
+use lib.ListN.{length}
 use Rattle.rules.specs.declared.Rule.{Rule}
 use Rattle.rules.specs.Bounds.{maxRules}
-use Rattle.rules.specs.Check.{activeRules}
 use Rattle.rules.specs.Refusal.{badLine, tooLong, badNode}
 use Rattle.grammar.specs.Size.{maxText}
 use Rattle.grammar.specs.Newlines.{newlines}
-use Rattle.grammar.specs.Form.{Saying, Says, line}
-use Rattle.grammar.specs.Grammar.{Contents, manyLines, linesOf, bytesOfAll, AllFit, TextIs, Stops}
+use Rattle.grammar.specs.Form.{line}
+use Rattle.grammar.specs.Grammar.{linesOf, bytesOfAll, Stops}
 use Rattle.grammar.specs.Clear.{kindsOf}
 use Rattle.grammar.specs.ToldLaws.{lines-in}
-use Rattle.grammar.specs.LinesLaws.{newlines-all, fit-append, fit-split}
-use Rattle.grammar.specs.Reading.{Reading, readText}
-use Rattle.grammar.specs.Reading.{read as contents}
-use Rattle.grammar.specs.Read.{ReadingIs, right, wrong}
+use Rattle.grammar.specs.LinesLaws.{newlines-all}
+use Rattle.grammar.specs.Read.{wrong}
 use Rattle.grammar.specs.Read.{too-long as beyond}
-use Rattle.grammar.specs.GrammarLaws.{contents-once, reading-is, is-reading}
-use Rattle.rule_lines.specs.Rules.{ruleLine, ruleRows, rulesSaid, ruleListOf}
-use Rattle.rule_lines.specs.RulesLaws.{active-rules, said-length}
-use Rattle.rule_lines.specs.RulesLaws.{said-rows as rules-back, rows-said as rules-again}
-use Rattle.monitor_text.specs.declared.monitors.MonitorText.{MonitorText}
-use Rattle.monitor_text.specs.Readings.{NodeReading, OnBench, benchPoints}
-use Rattle.monitor_text.specs.ReadingsLaws.{all-bench, first-off, off-place}
-use Rattle.monitor_text.specs.MonitorGrammar.{pointLine, monitorGrammar, pointRows, pointsSaid, monitorContents}
-use Rattle.monitor_text.specs.PointTurnLaws.{said-rows, rows-said}
-use Rattle.monitor_text.specs.MonitorText.{refusedMonitor, readMonitor, pointsFrom, benchOr, monitorOf, monitorText, monitorPoints, pointsAt}
+use Rattle.grammar.specs.EveryGrammar.{is-reading}
+use Rattle.monitor_text.specs.Readings.{NodeReading, OnBench}
+use Rattle.monitor_text.specs.MonitorGrammar.{monitorGrammar, monitorContents}
+use Rattle.monitor_text.specs.MonitorText.{refusedMonitor, readMonitor, monitorOf, monitorText, monitorPoints}
 use Rattle.monitor_text.specs.MonitorTextLaws.{clear-monitor}
-use Rattle.monitor_text.specs.AcceptedLaws.{bench-read, points-again}
-use Rattle.monitor_claims.specs.MonitorTexts.{MonitorTextIs, OffBench, MonitorReading, too-long, stopped, off-bench, read}
-
--- ---- what contents say: a chart, rules and points
-
-abbrev rulesIn : Contents monitorGrammar → List Rule
-rulesIn c = rulesSaid (c .1 .0)
-
-abbrev pointsIn : Contents monitorGrammar → List NodeReading
-pointsIn c = pointsSaid (c .1 .1 .0)
-
-contents-said : (c : Contents monitorGrammar) → monitorContents (c .0 .0) (c .0 .1 .0) (rulesIn c) (pointsIn c) ≡ c
-contents-said c =
-    let rs = rules-again (c .1 .0) in
-    let ps = rows-said (c .1 .1 .0) in
-    λ i. (c .0, (rs i, (ps i, tt)))
-
--- A text whose contents these are is the text of what they say.
-monitor-is : {s : List ℕ} (c : Contents monitorGrammar) → TextIs monitorGrammar c s → length s ≤ maxText
-    → MonitorTextIs s (c .0 .0) (c .0 .1 .0) (rulesIn c) (pointsIn c)
-monitor-is c t l = record { text = rw (contents-said c) t; short = l }
-
--- and is read so
-read-contents : {s : List ℕ} {c : ℤ} {d : ℕ} {rs : List Rule} {ps : List NodeReading} → MonitorTextIs s c d rs ps
-    → readText monitorGrammar s ≡ contents (monitorContents c d rs ps)
-read-contents {s} t = is-reading monitorGrammar clear-monitor s (right (t .short) (t .text))
-
--- ---- the lines of a chart, rules and points
-
-rules-length : (rs : List Rule) → length (manyLines (line ruleLine) (ruleRows rs)) ≡ length rs
-unfolding manyLines ruleRows
-rules-length [] = refl
-rules-length (r ∷ rs) = omega (arith, rules-length rs)
-
-points-length : (ps : List NodeReading) → length (manyLines (line pointLine) (pointRows ps)) ≡ length ps
-unfolding manyLines pointRows
-points-length [] = refl
-points-length (p ∷ ps) = omega (arith, points-length ps)
-
-rows-length : (rs : List Rule) → length (ruleRows rs) ≡ length rs
-unfolding ruleRows
-rows-length [] = refl
-rows-length (r ∷ rs) = omega (arith, rows-length rs)
-
-lines-length : (c : ℤ) (d : ℕ) (rs : List Rule) (ps : List NodeReading)
-    → length (linesOf monitorGrammar (monitorContents c d rs ps)) ≡ 1 + length rs + length ps
-unfolding linesOf
-lines-length c d rs ps =
-    let rules = manyLines (line ruleLine) (ruleRows rs) in
-    let points = manyLines (line pointLine) (pointRows ps) in
-    omega (arith, length-append rules (points ++ []), length-append points [], rules-length rs, points-length ps)
-
--- the lines before a point are within 32 bits, as all are
-points-front : (before more : List NodeReading) → AllFit (manyLines (line pointLine) (pointRows (before ++ more)) ++ [])
-    → AllFit (manyLines (line pointLine) (pointRows before) ++ [])
-unfolding manyLines pointRows AllFit
-points-front [] more i = tt
-points-front (p ∷ before) more i = (i .0, points-front before more (i .1))
-
-front-fits : (c : ℤ) (d : ℕ) (rs : List Rule) (before more : List NodeReading) → AllFit (linesOf monitorGrammar (monitorContents c d rs (before ++ more)))
-    → AllFit (linesOf monitorGrammar (monitorContents c d rs before))
-unfolding linesOf AllFit
-front-fits c d rs before more i =
-    let rules = manyLines (line ruleLine) (ruleRows rs) in
-    let points : List NodeReading → List Saying = λ ps. manyLines (line pointLine) (pointRows ps) ++ [] in
-    let parts = fit-split rules (points (before ++ more)) (i .1) in
-    (i .0, fit-append rules (points before) (parts .0) (points-front before more (parts .1)))
+use Rattle.monitor_claims.specs.MonitorTexts.{MonitorTextIs, OffBench, MonitorReading}
+use Rattle.monitor_claims.specs.MonitorBytesLaws.{front-fits}
+use Rattle.monitor_claims.specs.MonitorBytesLaws.{monitor-reading as monitor-reading-proved, monitor-read as monitor-read-proved, monitor-off-bench as monitor-off-bench-proved}
+use Rattle.monitor_claims.specs.MonitorBytesLaws.{monitor-text-once as monitor-text-once-proved, monitor-accepted as monitor-accepted-proved, monitor-exactly as monitor-exactly-proved}
 
 -- The first point of no node is the line behind the LFs before it.
 pub off-newlines : {s : List ℕ} {c : ℤ} {d : ℕ} {rs : List Rule} {place : ℕ} (o : OffBench s c d rs place)
@@ -111,118 +36,37 @@ off-newlines {s} {c} {d} {rs} o =
     let fits = front-fits c d rs (o .before) (o .point ∷ o .after) (o .text .text .fit) in
     omega (arith, o .line, newlines-all (kindsOf monitorGrammar) (clear-monitor .1) (linesOf monitorGrammar front) (lines-in monitorGrammar front) fits)
 
--- ---- every text is one of the four kinds
-
-module _ (s : List ℕ) (short : length s ≤ maxText) (c : Contents monitorGrammar) (t : TextIs monitorGrammar c s) where
-  off : benchPoints (pointsIn c) < length (pointsIn c) → OffBench s (c .0 .0) (c .0 .1 .0) (rulesIn c) (2 + length (c .1 .0) + benchPoints (pointsIn c))
-  off l =
-      let f = first-off (pointsIn c) l in
-      let is = rw (f .split) at (monitor-is c t short) in
-      record {
-        before = f .before;
-        point = f .point;
-        after = f .after;
-        text = is;
-        good = f .good;
-        bad = f .bad;
-        line = omega (arith, f .place, lines-length (c .0 .0) (c .0 .1 .0) (rulesIn c) (f .before), said-length (c .1 .0));
-      }
-
-  benched : (b : Bool) → ltb (benchPoints (pointsIn c)) (length (pointsIn c)) ≡ b
-      → MonitorReading s (cond b (refusedMonitor (badNode (2 + length (c .1 .0) + benchPoints (pointsIn c))))
-      (readMonitor (c .0 .0) (c .0 .1 .0) (rulesIn c) (pointsFrom (c .0) (c .1 .0))))
-  benched true e = off-bench (c .0 .0) (c .0 .1 .0) (rulesIn c) _ (off (ltb-true _ _ e))
-  benched false e =
-      put (rules-again (c .1 .0))
-      (read (c .0 .0) (c .0 .1 .0) (rulesIn c) (pointsIn c) (monitor-is c t short) (all-bench (pointsIn c) (ltb-false _ _ e)))
-    where
-      put : {xs ys : List (Says ruleLine)} → xs ≡ ys
-          → MonitorReading s (readMonitor (c .0 .0) (c .0 .1 .0) (rulesIn c) (pointsFrom (c .0) xs))
-          → MonitorReading s (readMonitor (c .0 .0) (c .0 .1 .0) (rulesIn c) (pointsFrom (c .0) ys))
-      put q r = rw (← q) r
-
 -- Every text is refused by 17; or by 16, at the line where it stops being one; or by 19, at the first point whose node is none of the bench's; or it
 -- is read.
 pub monitor-reading : (s : List ℕ) → MonitorReading s (monitorText s)
-unfolding monitorText monitorOf benchOr
-monitor-reading s = go (readText monitorGrammar s) (reading-is monitorGrammar clear-monitor s)
-  where
-    go : (r : Reading (Contents monitorGrammar)) → ReadingIs monitorGrammar s r → MonitorReading s (monitorOf r)
-    go r (beyond l) = too-long l
-    go r (wrong {n} l st) = stopped n l st
-    go r (right {c} l t) = benched s l c t (ltb (benchPoints (pointsIn c)) (length (pointsIn c))) refl
+monitor-reading = monitor-reading-proved
 
 -- ---- the lines of a chart, rules and points are read back
 
 pub monitor-read : {s : List ℕ} {c : ℤ} {d : ℕ} {rs : List Rule} {ps : List NodeReading} → MonitorTextIs s c d rs ps → OnBench ps
     → (at : ℕ) × (monitorText s ≡ readMonitor c d rs at) × (monitorPoints s ≡ ps)
-unfolding readMonitor
-monitor-read {s} {c} {d} {rs} {ps} t o =
-    let all = monitorContents c d rs ps in
-    let e = read-contents t in
-    let bench : OnBench (pointsSaid (pointRows ps)) = rw (said-rows ps) o in
-    let at = pointsFrom (c, (d, tt)) (ruleRows rs) in
-    let given = bench-read s all e bench in (
-      at,
-      given ∙ ap (λ (l : List Rule). readMonitor c d l at) (rules-back rs),
-      ap (λ (m : MonitorText). pointsAt s (m .points)) given ∙ points-again s all e ∙ said-rows ps,
-    )
+monitor-read = monitor-read-proved
 
 -- A text with a point whose node is none of the bench's is refused by 19, at the first such point.
 pub monitor-off-bench : {s : List ℕ} {c : ℤ} {d : ℕ} {rs : List Rule} {place : ℕ} → OffBench s c d rs place
     → monitorText s ≡ refusedMonitor (badNode place)
-unfolding monitorText monitorOf benchOr
-monitor-off-bench {s} {c} {d} {rs} {place} o =
-    let ps : List NodeReading = o .before ++ (o .point ∷ o .after) in
-    let first : benchPoints ps ≡ length (o .before) = off-place (o .before) (o .point) (o .after) (o .good) (o .bad) in
-    let few : benchPoints ps < length ps = omega (arith, length-append (o .before) (o .point ∷ o .after)) in
-    let line : 2 + length (ruleRows rs) + benchPoints ps ≡ place =
-    omega (arith, o .line, lines-length c d rs (o .before), rows-length rs) in
-    rw (read-contents (o .text), said-rows ps, lt-ltb (benchPoints ps) (length ps) few, line)
+monitor-off-bench = monitor-off-bench-proved
 
 -- A text is the lines of at most one chart, one list of rules and one list of points.
 pub monitor-text-once : {s : List ℕ} {c c′ : ℤ} {d d′ : ℕ} {rs rs′ : List Rule} {ps ps′ : List NodeReading} → MonitorTextIs s c d rs ps
     → MonitorTextIs s c′ d′ rs′ ps′
     → (c ≡ c′) × (d ≡ d′) × (rs ≡ rs′) × (ps ≡ ps′)
-monitor-text-once {s} {c} {c′} {d} {d′} {rs} {rs′} {ps} {ps′} t t′ =
-    let e = contents-once clear-monitor (t .text) (t′ .text) in (
-      ap (λ (a : Contents monitorGrammar). a .0 .0) e,
-      ap (λ (a : Contents monitorGrammar). a .0 .1 .0) e,
-      sym (rules-back rs) ∙ ap rulesIn e ∙ rules-back rs′,
-      sym (said-rows ps) ∙ ap pointsIn e ∙ said-rows ps′,
-    )
+monitor-text-once = monitor-text-once-proved
 
 -- A text is accepted, by the number 0, exactly where it is the lines of a chart, rules and points of the bench's nodes: then it gives these.
 pub monitor-accepted : (s : List ℕ) → monitorText s .refusal .number ≡ 0
     → (c : ℤ) × (d : ℕ) × (rs : List Rule) × (ps : List NodeReading) × MonitorTextIs s c d rs ps × OnBench ps
-unfolding refusedMonitor
-monitor-accepted s z = go (monitorText s) (monitor-reading s) z
-  where
-    go : (t : MonitorText) → MonitorReading s t → t .refusal .number ≡ 0
-        → (c : ℤ) × (d : ℕ) × (rs : List Rule) × (ps : List NodeReading) × MonitorTextIs s c d rs ps × OnBench ps
-    go t (too-long l) z = absurd (omega arith)
-    go t (stopped place l st) z = absurd (omega arith)
-    go t (off-bench c d rs place o) z = absurd (omega arith)
-    go t (read c d rs ps i o) z = (c, d, rs, ps, i, o)
+monitor-accepted = monitor-accepted-proved
 
 -- The same by the equations with what is read, for the rules that a list has slots for.
 pub monitor-exactly : {s : List ℕ} {c : ℤ} {d : ℕ} {rs : List Rule} (at : ℕ) {ps : List NodeReading} → length rs ≤ maxRules
     → monitorText s ≡ readMonitor c d rs at → monitorPoints s ≡ ps → MonitorTextIs s c d rs ps × OnBench ps
-unfolding readMonitor ruleListOf
-monitor-exactly {s} {c} {d} {rs} at {ps} few e points =
-    let a = monitor-accepted s (ap (λ (t : MonitorText). t .refusal .number) e) in
-    let r = monitor-read (a .4) (a .5) in
-    let same : readMonitor (a .0) (a .1) (a .2) (r .0) ≡ readMonitor c d rs at = sym (r .1) ∙ e in
-    let cs : a .0 ≡ c = ap (λ (t : MonitorText). t .centre) same in
-    let ds : a .1 ≡ d = ap (λ (t : MonitorText). t .sigma) same in
-    let count : length (a .2) ≡ length rs = ap (λ (t : MonitorText). t .list .len) same in
-    let list : activeRules (ruleListOf (a .2)) ≡ activeRules (ruleListOf rs) = ap (λ (t : MonitorText). activeRules (t .list)) same in
-    let rules : a .2 ≡ rs = sym (active-rules (a .2) (omega arith)) ∙ list ∙ active-rules rs few in
-    put cs ds rules (sym (r .2) ∙ points) (a .4) (a .5)
-  where
-    put : {v v′ : ℤ} {n n′ : ℕ} {l l′ : List Rule} {q q′ : List NodeReading} → v ≡ v′ → n ≡ n′ → l ≡ l′ → q ≡ q′ → MonitorTextIs s v n l q → OnBench q
-        → MonitorTextIs s v′ n′ l′ q′ × OnBench q′
-    put a b c d t o = (rw (← a, ← b, ← c, ← d) t, rw (← d) o)
+monitor-exactly = monitor-exactly-proved
 
 -- Bytes that stop being a text at a line are refused by 16, with that line as the place.
 pub monitor-stopped : {s : List ℕ} {place : ℕ} → length s ≤ maxText → Stops monitorGrammar s place → monitorText s ≡ refusedMonitor (badLine place)

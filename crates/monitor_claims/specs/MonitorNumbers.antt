@@ -1,37 +1,19 @@
 -- CLAIMS: by which numbers the texts of the monitor program are refused, and by which none is.
 use Prim.Native.Nat.{ℕ}
-use mathlib.Core.Path.{_≡_, refl, sym, _∙_}
-use mathlib.Core.List.{List, _∷_}
-use Rattle.rules.specs.Numbers.{ruleNumbers, OneOf, here, there}
-use Rattle.rules.specs.Refusal.{badSigma, badLine, tooLong}
-use Rattle.rules.specs.Refusal.{badNode}
+use mathlib.Core.Path.{_≡_, refl}
+use mathlib.Core.List.{List}
+use Rattle.rules.specs.Numbers.{OneOf}
 use Rattle.write.specs.Refused.{refusedLine}
 use Rattle.write.specs.Printed.{printedBytes}
 use Rattle.monitor_report.specs.MonitorReport.{monitorPrinted}
-use Rattle.monitor_claims.specs.MonitorOutput.{refuses, prints, too-long, bad-line}
-use Rattle.monitor_claims.specs.MonitorOutput.{MonitorRefusal, MonitorProgram, bad-node, bad-rules, bad-sigma}
-use Rattle.monitor_claims.specs.MonitorProgram.{monitor-program}
-use Rattle.monitor_claims.specs.MonitorPrintedOnce.{bench-not-refused}
-use Rattle.text_claims.specs.NumbersApart.{elem, apart, apart-never, libraryNumbers, refused-number}
-
--- the numbers that a text is refused by
-abbrev pub monitorNumbers : List ℕ
-monitorNumbers = tooLong .number ∷ badLine 0 .number ∷ badNode 0 .number ∷ badSigma .number ∷ ruleNumbers
-
-monitor-numbers : {s : List ℕ} {n p : ℕ} → MonitorRefusal s n p → OneOf monitorNumbers n
-monitor-numbers (too-long l) = here refl
-monitor-numbers (bad-line place l st) = there (here refl)
-monitor-numbers (bad-node c d rs place o) = there (there (here refl))
-monitor-numbers (bad-rules c d rs ps x is o q r) = there (there (there (there r)))
-monitor-numbers (bad-sigma c d rs ps is o ok b) = there (there (there (here refl)))
+use Rattle.text_claims.specs.NumbersApartLaws.{elem, apart, apart-never}
+use Rattle.rules.specs.Numbers.{libraryNumbers}
+use Rattle.monitor_claims.specs.MonitorOutput.{monitorNumbers}
+use Rattle.monitor_claims.specs.MonitorNumbersLaws.{monitor-refusals as monitor-refusals-proved}
 
 -- A refusal that the monitor program prints has one of its numbers.
 pub monitor-refusals : (s : List ℕ) (n p : ℕ) → printedBytes (monitorPrinted s) ≡ refusedLine n p → OneOf monitorNumbers n
-monitor-refusals s n p e = go (monitor-program s)
-  where
-    go : MonitorProgram s (printedBytes (monitorPrinted s)) → OneOf monitorNumbers n
-    go (refuses number place q r) = rw (refused-number n p number place (sym e ∙ q)) (monitor-numbers r)
-    go (prints c d rs ps is o ok b t) = absurd (bench-not-refused rs c d ps n p (sym (t .lines) ∙ e))
+monitor-refusals = monitor-refusals-proved
 
 pub monitor-never : (s : List ℕ) (n p : ℕ) → OneOf libraryNumbers n → printedBytes (monitorPrinted s) ≡ refusedLine n p → ⊥
 unfolding apart elem

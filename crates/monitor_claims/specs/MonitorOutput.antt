@@ -24,6 +24,28 @@ use Rattle.monitor_report.specs.Points.{benchBytes}
 use Rattle.monitor.specs.Zones.{zonesOf}
 use Rattle.claims.specs.Exact.{freeAnswers}
 use Rattle.monitor_claims.specs.MonitorTexts.{MonitorTextIs, OffBench}
+use Prim.Native.Nat.{ℕ}
+use mathlib.Core.Path.{_≡_}
+use mathlib.Core.List.{List, [], _∷_}
+use lib.ListN.{length}
+use Rattle.window.specs.ReferenceChart.{Answer}
+use Rattle.monitor_text.specs.Readings.{NodeReading, readingsOf}
+use Rattle.monitor_report.specs.Points.{NodeAnswer}
+use Rattle.monitor_report.specs.Points.{benchBytes}
+use Rattle.monitor_claims.specs.MonitorTexts.{MonitorTextIs}
+use mathlib.Core.Path.{_≡_}
+use mathlib.Core.List.{List, _∷_}
+use Rattle.rules.specs.Numbers.{ruleNumbers, OneOf}
+use Rattle.rules.specs.Refusal.{badSigma, badLine, tooLong}
+use Rattle.rules.specs.Refusal.{badNode}
+use Prim.Native.Nat.{ℕ, _≤_, _<_}
+use mathlib.Core.Path.{_≡_}
+use mathlib.Core.List.{List, [], _∷_}
+use Rattle.window.specs.ReferenceChart.{Answer}
+use Rattle.monitor_text.specs.Readings.{NodeReading, OnBench, readingsOf}
+use Rattle.write.specs.Printed.{printedBytes}
+use Rattle.monitor_report.specs.Points.{benchBytes}
+use Rattle.monitor_report.specs.MonitorReport.{monitorPrinted}
 
 -- the plain chart on the zones of readings: what it answers to them, one by one, from an empty row
 abbrev pub plainChart : List Rule → ℤ → ℕ → List ℤ → List Answer
@@ -51,3 +73,20 @@ pub data MonitorProgram (s : List ℕ) (printed : List ℕ) : Type 0 where
   prints : (centre : ℤ) (sigma : ℕ) (rs : List Rule) (ps : List NodeReading) → MonitorTextIs s centre sigma rs ps → OnBench ps
       → checkOf (ruleListOf rs) ≡ Accepted → (minSigma ≤ sigma) × (sigma ≤ maxSigma)
       → MonitorPrints centre sigma rs ps printed → MonitorProgram s printed
+
+-- ---- the monitor's lines
+
+-- each answer is quiet or signal
+unfoldable pub EachSaid : List NodeAnswer → Type 0
+EachSaid [] = Unit {0}
+EachSaid (a ∷ rest) = Said (a .answer) × EachSaid rest
+
+-- the numbers that a text is refused by
+abbrev pub monitorNumbers : List ℕ
+monitorNumbers = tooLong .number ∷ badLine 0 .number ∷ badNode 0 .number ∷ badSigma .number ∷ ruleNumbers
+
+-- ---- from bytes to bytes
+
+-- the text is not refused
+abbrev pub NotRefused : List ℕ → Type 0
+NotRefused s = (number place : ℕ) → printedBytes (monitorPrinted s) ≡ refusedLine number place → ⊥

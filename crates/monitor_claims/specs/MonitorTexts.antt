@@ -9,7 +9,7 @@ use Rattle.rules.specs.declared.Rule.{Rule}
 use Rattle.rules.specs.Refusal.{badLine, tooLong, badNode}
 use Rattle.grammar.specs.Size.{maxText}
 use Rattle.grammar.specs.Grammar.{linesOf, TextIs, Stops}
-use Rattle.rule_lines.specs.Rules.{ruleRows}
+use Rattle.rule_lines.specs.Rules.{ruleValues}
 use Rattle.monitor_text.specs.declared.monitors.MonitorText.{MonitorText}
 use Rattle.monitor_text.specs.Readings.{NodeReading, nodeCount, OnBench}
 use Rattle.monitor_text.specs.MonitorGrammar.{monitorGrammar, monitorContents}
@@ -38,4 +38,4 @@ pub data MonitorReading (s : List ℕ) : MonitorText → Type 0 where
   off-bench : (centre : ℤ) (sigma : ℕ) (rs : List Rule) (place : ℕ) → OffBench s centre sigma rs place
       → MonitorReading s (refusedMonitor (badNode place))
   read : (centre : ℤ) (sigma : ℕ) (rs : List Rule) (ps : List NodeReading) → MonitorTextIs s centre sigma rs ps → OnBench ps
-      → MonitorReading s (readMonitor centre sigma rs (pointsFrom (centre, (sigma, tt)) (ruleRows rs)))
+      → MonitorReading s (readMonitor centre sigma rs (pointsFrom (centre, (sigma, tt)) (ruleValues rs)))

@@ -11,6 +11,17 @@ use Rattle.decimal.specs.Fields.{field}
 use Rattle.decimal.specs.Word.{comma, newline}
 use Rattle.monitor_report.specs.MonitorLines.{quietWord, signalWord, totalWord}
 use Rattle.monitor_report.specs.Points.{signalsIn}
+use Prim.Native.Nat.{ℕ, zero, suc}
+use mathlib.Core.Path.{_≡_}
+use mathlib.Core.List.{List, [], _∷_, _++_}
+use Rattle.monitor_text.specs.Readings.{NodeReading}
+use Prim.Native.Nat.{ℕ, _+_}
+use mathlib.Core.Path.{_≡_}
+use mathlib.Core.Bool.{Bool, true, false}
+use lib.Dec.{eqb}
+use Rattle.window.specs.ReferenceChart.{Answer, refused, quiet, signal}
+use Rattle.monitor_text.specs.Readings.{NodeReading}
+use Rattle.monitor_report.specs.Points.{NodeAnswer, signalsIn}
 
 -- ---- lines
 
@@ -50,8 +61,8 @@ ofNode node [] = []
 ofNode node (l ∷ ls) = cond (sameBytes (beforeComma (behindComma l)) (decimal node)) (l ∷ ofNode node ls) (ofNode node ls)
 
 -- the lines that are printed for a node, in their order
-unfoldable pub linesOf : ℕ → List ℕ → List (List ℕ)
-linesOf node bytes = ofNode node (linesIn bytes)
+unfoldable pub nodeLines : ℕ → List ℕ → List (List ℕ)
+nodeLines node bytes = ofNode node (linesIn bytes)
 
 -- the word is `quiet` or `signal`
 unfoldable pub ofPoint : List ℕ → Bool
@@ -73,7 +84,7 @@ lastField l = sinceComma [] l
 
 -- the period fields of a node: the last ones of its quiet and signal lines, in their order
 abbrev pub periodFields : ℕ → List ℕ → List (List ℕ)
-periodFields node bytes = map lastField (pointsIn (linesOf node bytes))
+periodFields node bytes = map lastField (pointsIn (nodeLines node bytes))
 
 -- n, n + 1, .., so many of them
 unfoldable pub countFrom : ℕ → ℕ → List ℕ
@@ -104,3 +115,27 @@ aloneLines (a ∷ rest) = aloneLine a ++ aloneLines rest
 -- a line for each answer, then total,points,signals
 unfoldable pub aloneBytes : List Answer → List ℕ
 aloneBytes answers = aloneLines answers ++ (totalWord ++ field (length answers) ++ field (signalsIn answers) ++ newline)
+
+-- every point is of this node
+unfoldable pub OnlyNode : ℕ → List NodeReading → Type 0
+OnlyNode k [] = Unit {0}
+OnlyNode k (p ∷ ps) = (p .node ≡ k) × OnlyNode k ps
+
+-- ---- what the run lengths add up to
+
+-- the count that an answer tells
+abbrev pub countIn : Answer → ℕ
+countIn (refused n) = 0
+countIn (quiet n) = n
+countIn (signal n mask) = n
+
+-- the run lengths that have ended, added up: a signal's count is a run length
+abbrev pub runsAfter : ℕ → Answer → ℕ
+runsAfter runs (refused n) = runs
+runsAfter runs (quiet n) = runs
+runsAfter runs (signal n mask) = runs + n
+
+-- each period is the run lengths before it and its own count
+unfoldable pub AddsUp : ℕ → List NodeAnswer → Type 0
+AddsUp runs [] = Unit {0}
+AddsUp runs (a ∷ rest) = (a .period ≡ runs + countIn (a .answer)) × AddsUp (runsAfter runs (a .answer)) rest

@@ -11,7 +11,7 @@ use Rattle.decimal.specs.Fields.{field, fields}
 use Rattle.decimal.specs.FieldsLaws.{fields-snoc}
 use Rattle.grammar.specs.Newlines.{newlines}
 use Rattle.grammar.specs.NewlineLaws.{newlines-append, newlines-fields}
-use Rattle.text_claims.specs.NumberOnce.{decimal-once}
+use Rattle.text_claims.specs.NumberOnceLaws.{decimal-once}
 use Rattle.monitor_claims.specs.NodeLines.{linesIn, beforeComma, behindComma, sameBytes, ofNode}
 use Rattle.monitor_claims.specs.NodeLines.{ofPoint, pointsIn, sinceComma, lastField, withNode, withPeriods}
 

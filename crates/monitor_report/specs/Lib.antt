@@ -3,7 +3,7 @@ pub mod MonitorLines
 pub mod Points
 pub mod Nodes
 pub mod NodesLaws
-pub mod TotalsWritten
+pub mod TotalsWrittenLaws
 pub mod BenchWritten
 pub mod PointsLaws
 pub mod MonitorReport

@@ -20,7 +20,7 @@ use Rattle.rules.specs.Bounds.{maxNumber}
 use Rattle.monitor.specs.Step.{freshMonitor}
 use Rattle.window.specs.ReferenceChart.{Answer}
 use Rattle.monitor.specs.Calls.{Said, EachAnswer}
-use Rattle.monitor.specs.Agreement.{no-refused-call}
+use Rattle.monitor.specs.AgreementLaws.{no-refused-call}
 use Rattle.monitor.specs.Take.{takenAnswers}
 use Rattle.monitor.specs.TakeLaws.{taken-answers}
 use Rattle.window.specs.GivenLaws.{fresh-valid}

@@ -14,7 +14,8 @@ use Rattle.runlength.specs.Sequence.{AllBelow}
 use Rattle.monitor.specs.declared.Monitor.{Monitor}
 use Rattle.window.specs.State.{validState, moveOf}
 use Rattle.monitor.specs.Step.{freshMonitor}
-use Rattle.window.specs.ReferenceChart.{Answer, quiet, signal}
+use Rattle.rules.specs.Mask.{bit}
+use Rattle.window.specs.ReferenceChart.{Answer, quiet, signal, isSignal}
 use Rattle.monitor.specs.Take.{takenBy, takenOf, nextOf, answerOf, takenAnswers}
 use Rattle.monitor.specs.declared.Taken.{Taken}
 use Rattle.window.specs.declared.Move.{Move}
@@ -22,7 +23,7 @@ use Rattle.monitor_report.specs.declared.nodes.Node.{Node}
 use Rattle.monitor_report.specs.MonitorLines.{pointBytes}
 use Rattle.monitor.specs.TakeLaws.{taken-valid}
 use Rattle.window.specs.GivenLaws.{fresh-valid}
-use Rattle.monitor_report.specs.Points.{oneSignal, signalsIn, nodeTotal, lineOf}
+use Rattle.monitor_report.specs.Points.{signalsIn, nodeTotal, lineOf}
 use Rattle.monitor_report.specs.Nodes.{nodePoint, nodeTaken, takenAfter, nodeAfter, totalOf}
 
 -- ---- one point more
@@ -48,14 +49,14 @@ unfolding takenAnswers
 answers-length rs m [] = refl
 answers-length rs m (z ∷ zs) = omega (arith, answers-length rs (nextOf (takenOf rs m z)) zs)
 
-signals-more : (answers : List Answer) (a : Answer) → signalsIn (answers ++ (a ∷ [])) ≡ signalsIn answers + oneSignal a
+signals-more : (answers : List Answer) (a : Answer) → signalsIn (answers ++ (a ∷ [])) ≡ signalsIn answers + bit (isSignal a)
 unfolding signalsIn
 signals-more [] a = omega arith
 signals-more (x ∷ rest) a = omega (arith, signals-more rest a)
 
 -- the node behind a point that is taken
 node-next : (k : ℕ) (n : Node) (count : ℕ) (t : Taken)
-    → nodePoint k n t .next ≡ record { monitor = nextOf t; points = n .points + 1; signals = n .signals + oneSignal (answerOf count t) }
+    → nodePoint k n t .next ≡ record { monitor = nextOf t; points = n .points + 1; signals = n .signals + bit (isSignal (answerOf count t)) }
 node-next k n count (Taken.Quiet m) = let e : n .signals + 0 ≡ n .signals = omega arith in rw e
 node-next k n count (Taken.Signal mask) = refl
 
@@ -70,7 +71,7 @@ node-more rs k zs z =
     let m = takenAfter rs freshMonitor zs in
     let points : length (zs ++ (z ∷ [])) ≡ length zs + 1 = length-append zs (z ∷ []) in
     let before = takenAnswers rs freshMonitor zs in
-    let signals : signalsIn (takenAnswers rs freshMonitor (zs ++ (z ∷ []))) ≡ signalsIn before + oneSignal (answerAfter rs freshMonitor zs z) =
+    let signals : signalsIn (takenAnswers rs freshMonitor (zs ++ (z ∷ []))) ≡ signalsIn before + bit (isSignal (answerAfter rs freshMonitor zs z)) =
     ap signalsIn (answers-more rs freshMonitor zs z) ∙ signals-more before (answerAfter rs freshMonitor zs z) in
     rw (after-more rs freshMonitor zs z, points, signals) (sym (node-next k _ (m .count + 1) (takenOf rs m z)))
 
@@ -101,7 +102,7 @@ unfolding takenAfter
 after-count rs m [] = omega arith
 after-count rs m (z ∷ zs) = omega (arith, after-count rs (nextOf (takenOf rs m z)) zs, count-le rs m z)
 
-one-signal-le : (a : Answer) → oneSignal a ≤ 1
+one-signal-le : (a : Answer) → bit (isSignal a) ≤ 1
 one-signal-le (Answer.refused n) = omega arith
 one-signal-le (quiet n) = omega arith
 one-signal-le (signal n mask) = omega arith

@@ -3,7 +3,8 @@ use Prim.Native.Nat.{ℕ, zero, suc, _+_, _*_, _/_}
 use mathlib.Core.List.{List, [], _∷_, _++_}
 use lib.ListN.{length}
 use lib.IntN.{ℤ}
-use Rattle.window.specs.ReferenceChart.{Answer, refused, quiet, signal}
+use Rattle.rules.specs.Mask.{bit}
+use Rattle.window.specs.ReferenceChart.{Answer, refused, quiet, signal, isSignal}
 use Rattle.grammar.specs.FormLaws.{leastOf}
 use Rattle.grammar.specs.Size.{maxText}
 use Rattle.monitor_text.specs.MonitorGrammar.{pointLine}
@@ -20,16 +21,10 @@ maxPoints = maxText / minPoint
 abbrev pub monitorRoom : ℕ
 monitorRoom = pointRoom * maxPoints + totalRoom * nodeCount
 
--- 1 for a signal, else 0
-abbrev pub oneSignal : Answer → ℕ
-oneSignal (refused n) = 0
-oneSignal (quiet n) = 0
-oneSignal (signal n mask) = 1
-
 -- how many answers are signals
 unfoldable pub signalsIn : List Answer → ℕ
 signalsIn [] = 0
-signalsIn (a ∷ rest) = oneSignal a + signalsIn rest
+signalsIn (a ∷ rest) = bit (isSignal a) + signalsIn rest
 
 -- ---- what is said of each point, and of each node
 

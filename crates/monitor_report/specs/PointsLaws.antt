@@ -17,7 +17,7 @@ use Rattle.monitor.specs.Step.{freshMonitor}
 use Rattle.window.specs.ReferenceChart.{Answer}
 use Rattle.monitor.specs.Take.{takenOf, takenAnswers}
 use Rattle.grammar.specs.Form.{line}
-use Rattle.grammar.specs.Reading.{found, other, seen}
+use Rattle.grammar.specs.TextReading.{found, other, seen}
 use Rattle.grammar.specs.Size.{maxText}
 use Rattle.write.specs.Wrote.{Wrote}
 use Rattle.write.specs.WroteLaws.{wrote-nothing, wrote-length, then}

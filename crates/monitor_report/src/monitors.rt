@@ -6,7 +6,7 @@ use monitor::zone::sigma_fits;
 use rules::Checked;
 use rules::Refusal;
 use write::ReportAnswer;
-use write::put_refused;
+use write::put_answer;
 ghost use mathlib.Core.Path.{_≡_};
 ghost use Rattle.write.specs.Printed.{report, reportOf, printedBytes, OutputIs};
 ghost use Rattle.monitor_report.specs.MonitorReport.{monitorPrinted};
@@ -46,8 +46,5 @@ pub fn monitor_output(text: &[u8], out: &mut [u8; MONITOR_SIZE]) -> usize
     ensures { λ n. ⌜ OutputIs (now (out .entry)) (now (out .exit)) n (printedBytes (monitorPrinted (now (text .entry)))) ⌝ }
 {
     let answer = monitor_report(text, out);
-    match answer {
-        ReportAnswer::Written(n) => n,
-        ReportAnswer::Refused(r) => put_refused(out, 0, r),
-    }
+    put_answer(out, answer)
 }

@@ -10,8 +10,8 @@ use borrow.Author.Tests.{leb-true, ltb-false, le-ltb}
 use Rattle.grammar.specs.Form.{Says, line}
 use Rattle.grammar.specs.Grammar.{many, Contents}
 use Rattle.grammar.specs.Size.{maxText}
-use Rattle.grammar.specs.Reading.{Seen, found, other, onSeen, seen, manyAt, afterMany}
-use Rattle.grammar.specs.Reading.{Reading, read, stopped, long, also, readAt, readText}
+use Rattle.grammar.specs.TextReading.{Seen, found, other, onSeen, seen, manyAt, afterMany}
+use Rattle.grammar.specs.TextReading.{Reading, read, stopped, long, also, readAt, readText}
 use Rattle.rule_lines.specs.Rules.{ruleLine, rulesSaid}
 use Rattle.monitor_text.specs.declared.monitors.MonitorText.{MonitorText}
 use Rattle.monitor_text.specs.Readings.{NodeReading, OnBench, benchPoints}
@@ -37,9 +37,9 @@ contentsOr d long = d
 -- behind the chart, with whether the text ends where the points do
 abbrev behind : List ℕ → Says chartLine → ℕ → Bool → Reading (Contents monitorGrammar)
 behind s x at b =
-    let rows = manyAt (line ruleLine) (length s) s at in
+    let vss = manyAt (line ruleLine) (length s) s at in
     let points = manyAt (line pointLine) (length s) s (afterMany (line ruleLine) (length s) s at) in
-    also x (also rows (also points (cond b (read tt) (stopped (1 + 1 + length rows + length points)))))
+    also x (also vss (also points (cond b (read tt) (stopped (1 + 1 + length vss + length points)))))
 
 pub lines-at : (s : List ℕ) (c : Contents monitorGrammar) → readText monitorGrammar s ≡ read c → LinesAt s c
 unfolding readText readAt

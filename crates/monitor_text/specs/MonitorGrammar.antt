@@ -3,10 +3,10 @@ use Prim.Native.Nat.{ℕ}
 use mathlib.Core.List.{List, [], _∷_}
 use lib.IntN.{ℤ}
 use Rattle.rules.specs.declared.Rule.{Rule}
-use Rattle.grammar.specs.Row.{number, signed}
+use Rattle.grammar.specs.LineValues.{number, signed}
 use Rattle.grammar.specs.Form.{Kind, named, Says}
 use Rattle.grammar.specs.Grammar.{Grammar, one, many, Contents}
-use Rattle.rule_lines.specs.Rules.{ruleLine, ruleRows}
+use Rattle.rule_lines.specs.Rules.{ruleLine, ruleValues}
 use Rattle.monitor_text.specs.Readings.{NodeReading, nodeReading}
 
 -- `chart`, the centre and sigma
@@ -28,19 +28,19 @@ abbrev pub monitorGrammar : Grammar
 monitorGrammar = one chartLine ∷ many ruleLine ∷ many pointLine ∷ []
 
 -- what the line of a point says, and the point that such a line says
-abbrev pub pointRow : NodeReading → Says pointLine
-pointRow p = (p .node, (p .reading, tt))
+abbrev pub valuesOfPoint : NodeReading → Says pointLine
+valuesOfPoint p = (p .node, (p .reading, tt))
 
 abbrev pub pointSaid : Says pointLine → NodeReading
 pointSaid x = nodeReading (x .0) (x .1 .0)
 
-unfoldable pub pointRows : List NodeReading → List (Says pointLine)
-pointRows [] = []
-pointRows (p ∷ ps) = pointRow p ∷ pointRows ps
+unfoldable pub pointValues : List NodeReading → List (Says pointLine)
+pointValues [] = []
+pointValues (p ∷ ps) = valuesOfPoint p ∷ pointValues ps
 
 unfoldable pub pointsSaid : List (Says pointLine) → List NodeReading
 pointsSaid [] = []
 pointsSaid (x ∷ xs) = pointSaid x ∷ pointsSaid xs
 
 abbrev pub monitorContents : ℤ → ℕ → List Rule → List NodeReading → Contents monitorGrammar
-monitorContents centre sigma rs ps = ((centre, (sigma, tt)), (ruleRows rs, (pointRows ps, tt)))
+monitorContents centre sigma rs ps = ((centre, (sigma, tt)), (ruleValues rs, (pointValues ps, tt)))

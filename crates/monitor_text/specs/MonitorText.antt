@@ -10,8 +10,8 @@ use Rattle.rules.specs.declared.refusal.Refusal.{Refusal}
 use Rattle.rules.specs.Refusal.{notRefused, badLine, tooLong, badNode}
 use Rattle.grammar.specs.Form.{Says, line}
 use Rattle.grammar.specs.Grammar.{one, many, Contents, linesOf, bytesOfAll}
-use Rattle.grammar.specs.Reading.{manyAt, afterMany}
-use Rattle.grammar.specs.Reading.{Reading, read, stopped, long, readText}
+use Rattle.grammar.specs.TextReading.{manyAt, afterMany}
+use Rattle.grammar.specs.TextReading.{Reading, read, stopped, long, readText}
 use Rattle.rule_lines.specs.Rules.{ruleLine, rulesSaid, ruleListOf}
 use Rattle.monitor_text.specs.declared.monitors.MonitorText.{MonitorText}
 use Rattle.monitor_text.specs.declared.point_lines.PointsRead.{PointsRead}
@@ -44,15 +44,15 @@ readMonitor centre sigma rs at = record { refusal = notRefused; centre = centre;
 
 -- where the points begin: behind the lines of the chart and the rules
 abbrev pub pointsFrom : Says chartLine → List (Says ruleLine) → ℕ
-pointsFrom x rows = length (bytesOfAll (linesOf (one chartLine ∷ many ruleLine ∷ []) (x, (rows, tt))))
+pointsFrom x vss = length (bytesOfAll (linesOf (one chartLine ∷ many ruleLine ∷ []) (x, (vss, tt))))
 
 -- a point of a node that is none of the bench's, at its line, which is the line 2 behind the number of rules and of points before it; else what
 -- was read
 unfoldable pub benchOr : Says chartLine → List (Says ruleLine) → List NodeReading → MonitorText
-benchOr x rows ps =
+benchOr x vss ps =
     cond (ltb (benchPoints ps) (length ps))
-    (refusedMonitor (badNode (2 + length rows + benchPoints ps)))
-    (readMonitor (x .0) (x .1 .0) (rulesSaid rows) (pointsFrom x rows))
+    (refusedMonitor (badNode (2 + length vss + benchPoints ps)))
+    (readMonitor (x .0) (x .1 .0) (rulesSaid vss) (pointsFrom x vss))
 
 -- the contents, or 19; or 16 at the line where the text stops being one; or 17
 unfoldable pub monitorOf : Reading (Contents monitorGrammar) → MonitorText

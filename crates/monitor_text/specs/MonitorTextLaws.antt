@@ -11,18 +11,18 @@ use Rattle.rules.specs.Refusal.{notRefused, badLine, tooLong, badNode}
 use Rattle.decimal.specs.declared.word.Found.the-variants.{At, Absent}
 use Rattle.decimal.specs.Signed.{lowered}
 use Rattle.decimal.specs.SignedLaws.{lowered-raised}
-use Rattle.grammar.specs.Row.{number, signed, RowFits}
+use Rattle.grammar.specs.LineValues.{number, signed, ValuesFit}
 use Rattle.grammar.specs.Form.{bytesSaid, Says, line, saying}
 use Rattle.grammar.specs.Grammar.{one, many, Contents, manyLines, linesOf, bytesOfAll}
 use Rattle.grammar.specs.Clear.{Clear}
 use Rattle.grammar.specs.Size.{maxText}
 use Rattle.grammar.specs.FormLaws.{Look, looked, least}
-use Rattle.grammar.specs.ReadingLaws.{many-stand}
-use Rattle.grammar.specs.Reading.{Seen, found, other, seen, manyAt, afterMany}
-use Rattle.grammar.specs.Reading.{Reading, read, stopped, long, also, readAt, readText}
-use Rattle.grammar.specs.StepLaws.{read-line, read-other, read-many, read-end, read-more, other-word, word-inside, none-of-many, many-short}
+use Rattle.grammar.specs.TextReadingLaws.{many-stand}
+use Rattle.grammar.specs.TextReading.{Seen, found, other, seen, manyAt, afterMany}
+use Rattle.grammar.specs.TextReading.{Reading, read, stopped, long, also, readAt, readText}
+use Rattle.grammar.specs.BlockLaws.{read-line, read-other, read-many, read-end, read-more, other-word, word-inside, none-of-many, many-short}
 use Rattle.text.specs.declared.lines.LineRead.{LineRead}
-use Rattle.text.specs.LineRead.{placesOf, codes, lineReadAt}
+use Rattle.text.specs.LineRead.{slotsOf, codes, lineReadAt}
 use Rattle.text.specs.LineReadLaws.{SeenLine, line-seen, line-none}
 use Rattle.rule_lines.specs.declared.rule_lines.RulesRead.{RulesRead}
 use Rattle.rule_lines.specs.Rules.{ruleLine, rulesSaid, ruleListOf, rulesRead}
@@ -55,15 +55,15 @@ pub points-begin : (s : List ℕ) {x : Says chartLine} {at : ℕ} → seen (line
 unfolding linesOf bytesOfAll saying
 points-begin s {x} {at} e = go (seen (line chartLine) s 0) (looked s 0 (line chartLine)) e
   where
-    rows : List (Says ruleLine)
-    rows = manyAt (line ruleLine) (length s) s at
+    vss : List (Says ruleLine)
+    vss = manyAt (line ruleLine) (length s) s at
 
-    go : (y : Seen (Says chartLine)) → Look s 0 (line chartLine) y → y ≡ found x at → afterMany (line ruleLine) (length s) s at ≡ pointsFrom x rows
+    go : (y : Seen (Says chartLine)) → Look s 0 (line chartLine) y → y ≡ found x at → afterMany (line ruleLine) (length s) s at ≡ pointsFrom x vss
     go y i e =
         let a = (rw e at i) .spans .end in
         let b = many-stand (line ruleLine) s (length s) at .spans .end in
-        rw (append-nil (manyLines (line ruleLine) rows))
-        (omega (arith, a, b, length-append (bytesSaid (saying (line chartLine) x)) (bytesOfAll (manyLines (line ruleLine) rows))))
+        rw (append-nil (manyLines (line ruleLine) vss))
+        (omega (arith, a, b, length-append (bytesSaid (saying (line chartLine) x)) (bytesOfAll (manyLines (line ruleLine) vss))))
 
 abbrev givenMonitor : ℤ → ℕ → RuleList → ℕ → MonitorText
 givenMonitor centre sigma l at = record { refusal = notRefused; centre = centre; sigma = sigma; list = l; points = at }
@@ -81,8 +81,8 @@ module _ (s : List ℕ) (short : length s ≤ maxText) {f : LineRead} (fe : f �
     x : SeenLine chartWord (signed ∷ number ∷ []) s 0 f at
     x = line-seen chartWord (signed ∷ number ∷ []) s 0 fe q
 
-    rows : List (Says ruleLine)
-    rows = manyAt (line ruleLine) (length s) s at
+    vss : List (Says ruleLine)
+    vss = manyAt (line ruleLine) (length s) s at
 
     points : List (Says pointLine)
     points = manyAt (line pointLine) (length s) s (r .next)
@@ -90,24 +90,24 @@ module _ (s : List ℕ) (short : length s ≤ maxText) {f : LineRead} (fe : f �
     end : ℕ
     end = afterMany (line pointLine) (length s) s (r .next)
 
-    behind : readText monitorGrammar s ≡ also (x .row) (also rows (also points (readAt [] s end (r .line + length points))))
-    unfolding readText rows points end
+    behind : readText monitorGrammar s ≡ also (x .vs) (also vss (also points (readAt [] s end (r .line + length points))))
+    unfolding readText vss points end
     behind =
-        let m : readAt (many ruleLine ∷ many pointLine ∷ []) s at 2 ≡ also rows (readAt (many pointLine ∷ []) s (r .next) (r .line)) =
-        rw (read-line-number s at 2 re) (read-many (line ruleLine) (many pointLine ∷ []) s at 2 rows (r .next) refl (sym (read-next s at 2 re))) in
+        let m : readAt (many ruleLine ∷ many pointLine ∷ []) s at 2 ≡ also vss (readAt (many pointLine ∷ []) s (r .next) (r .line)) =
+        rw (read-line-number s at 2 re) (read-many (line ruleLine) (many pointLine ∷ []) s at 2 vss (r .next) refl (sym (read-next s at 2 re))) in
         let n : readAt (many pointLine ∷ []) s (r .next) (r .line) ≡ also points (readAt [] s end (r .line + length points)) =
         read-many (line pointLine) [] s (r .next) (r .line) points end refl refl in
         rw (le-leb (length s) maxText short)
         (read-line (line chartLine) (many ruleLine ∷ many pointLine ∷ []) s 0 1 (x .is)
-        ∙ ap (λ (y : Reading (Contents (many ruleLine ∷ many pointLine ∷ []))). also (x .row) y)
-        (m ∙ ap (λ (y : Reading (Contents (many pointLine ∷ []))). also rows y) n))
+        ∙ ap (λ (y : Reading (Contents (many ruleLine ∷ many pointLine ∷ []))). also (x .vs) y)
+        (m ∙ ap (λ (y : Reading (Contents (many pointLine ∷ []))). also vss y) n))
 
     -- something behind the points
     more : end < length s → refusedMonitor (badLine (r .line + length points)) ≡ monitorText s
     unfolding monitorOf
     more h =
         of-reading s
-        (behind ∙ ap (λ (y : Reading (Unit {0})). also (x .row) (also rows (also points y))) (read-more s end (r .line + length points) h))
+        (behind ∙ ap (λ (y : Reading (Unit {0})). also (x .vs) (also vss (also points y))) (read-more s end (r .line + length points) h))
 
     pub bad-rule : (r .refusal .number ≡ 0 → ⊥) → refusedMonitor (r .refusal) ≡ monitorText s
     unfolding points end
@@ -138,39 +138,39 @@ module _ (s : List ℕ) (short : length s ≤ maxText) {f : LineRead} (fe : f �
       pub goes-on : g .next < length s → refusedMonitor (badLine (r .line + g .count)) ≡ monitorText s
       goes-on h = ap (λ (n : ℕ). refusedMonitor (badLine (r .line + n))) count-is ∙ more (omega (arith, end-is))
 
-      read-all : length s ≤ g .next → readText monitorGrammar s ≡ read (x .row, (rows, (points, tt)))
+      read-all : length s ≤ g .next → readText monitorGrammar s ≡ read (x .vs, (vss, (points, tt)))
       read-all h =
-          behind ∙ ap (λ (y : Reading (Unit {0})). also (x .row) (also rows (also points y))) (read-end s end (r .line + length points) (omega (arith, end-is)))
+          behind ∙ ap (λ (y : Reading (Unit {0})). also (x .vs) (also vss (also points y))) (read-end s end (r .line + length points) (omega (arith, end-is)))
 
-      line-is : r .line ≡ 2 + length rows
-      unfolding rows
+      line-is : r .line ≡ 2 + length vss
+      unfolding vss
       line-is = read-line-number s at 2 re
 
       pub off-bench : length s ≤ g .next → g .good < g .count → refusedMonitor (badNode (r .line + g .good)) ≡ monitorText s
       unfolding monitorOf benchOr
       off-bench h l =
           let a : benchPoints (pointsSaid points) < length (pointsSaid points) = omega (arith, good-is, count-is, said-length points) in
-          let p : r .line + g .good ≡ 2 + length rows + benchPoints (pointsSaid points) = omega (arith, line-is, good-is) in
+          let p : r .line + g .good ≡ 2 + length vss + benchPoints (pointsSaid points) = omega (arith, line-is, good-is) in
           ap (λ (n : ℕ). refusedMonitor (badNode n)) p ∙ off a ∙ of-reading s (read-all h)
         where
           off : benchPoints (pointsSaid points) < length (pointsSaid points)
-              → refusedMonitor (badNode (2 + length rows + benchPoints (pointsSaid points))) ≡ monitorOf (read (x .row, (rows, (points, tt))))
+              → refusedMonitor (badNode (2 + length vss + benchPoints (pointsSaid points))) ≡ monitorOf (read (x .vs, (vss, (points, tt))))
           off a = rw (lt-ltb (benchPoints (pointsSaid points)) (length (pointsSaid points)) a)
 
-      centre-is : lowered (getD (f .values) 0 0) ≡ x .row .0
-      unfolding placesOf codes RowFits
-      centre-is = ap (λ (v : List ℕ). lowered (getD v 0 0)) (x .values) ∙ lowered-raised (x .row .0) (x .fits .0)
+      centre-is : lowered (getD (f .values) 0 0) ≡ x .vs .0
+      unfolding slotsOf codes ValuesFit
+      centre-is = ap (λ (v : List ℕ). lowered (getD v 0 0)) (x .values) ∙ lowered-raised (x .vs .0) (x .fits .0)
 
-      sigma-is : getD (f .values) 1 0 ≡ x .row .1 .0
-      unfolding placesOf codes
+      sigma-is : getD (f .values) 1 0 ≡ x .vs .1 .0
+      unfolding slotsOf codes
       sigma-is = ap (λ (v : List ℕ). getD v 1 0) (x .values)
 
-      begin : r .next ≡ pointsFrom (x .row) rows
-      unfolding rows
+      begin : r .next ≡ pointsFrom (x .vs) vss
+      unfolding vss
       begin = read-next s at 2 re ∙ points-begin s (x .is)
 
-      list-is : r .list ≡ ruleListOf (rulesSaid rows)
-      unfolding rows
+      list-is : r .list ≡ ruleListOf (rulesSaid vss)
+      unfolding vss
       list-is = read-list s at 2 re
 
       pub whole : {c : ℤ} → c ≡ lowered (getD (f .values) 0 0) → length s ≤ g .next → g .count ≤ g .good
@@ -181,5 +181,5 @@ module _ (s : List ℕ) (short : length s ≤ maxText) {f : LineRead} (fe : f �
           (λ i. givenMonitor ((e ∙ centre-is) i) (sigma-is i) (list-is i) (begin i)) ∙ on a ∙ of-reading s (read-all h)
         where
           on : length (pointsSaid points) ≤ benchPoints (pointsSaid points)
-              → givenMonitor (x .row .0) (x .row .1 .0) (ruleListOf (rulesSaid rows)) (pointsFrom (x .row) rows) ≡ monitorOf (read (x .row, (rows, (points, tt))))
+              → givenMonitor (x .vs .0) (x .vs .1 .0) (ruleListOf (rulesSaid vss)) (pointsFrom (x .vs) vss) ≡ monitorOf (read (x .vs, (vss, (points, tt))))
           on a = rw (le-ltb (benchPoints (pointsSaid points)) (length (pointsSaid points)) a)

@@ -11,32 +11,32 @@ use borrow.Author.Tests.{ltb-true, ltb-false, lt-ltb, le-ltb}
 use Rattle.decimal.specs.declared.word.Found.the-variants.{At, Absent}
 use Rattle.decimal.specs.Signed.{lowered}
 use Rattle.decimal.specs.SignedLaws.{lowered-raised}
-use Rattle.grammar.specs.Row.{number, signed, RowFits}
+use Rattle.grammar.specs.LineValues.{number, signed, ValuesFit}
 use Rattle.grammar.specs.Form.{Says, line}
-use Rattle.grammar.specs.Reading.{found, other, seen, manyAt, afterMany}
+use Rattle.grammar.specs.TextReading.{found, other, seen, manyAt, afterMany}
 use Rattle.grammar.specs.FormLaws.{leastOf, least}
-use Rattle.grammar.specs.StepLaws.{line-reaches, one-of-many, none-of-many, many-short}
+use Rattle.grammar.specs.BlockLaws.{line-reaches, one-of-many, none-of-many, many-short}
 use Rattle.grammar.specs.TurnLaws.{ReadUpTo, read-up-start, read-up-more, read-up-done}
 use Rattle.text.specs.declared.lines.LineRead.{LineRead}
-use Rattle.text.specs.LineRead.{placesOf, codes, lineReadAt}
+use Rattle.text.specs.LineRead.{slotsOf, codes, lineReadAt}
 use Rattle.text.specs.LineReadLaws.{SeenLine, line-seen, line-none}
 use Rattle.monitor_text.specs.declared.point_lines.PointsRead.{PointsRead}
 use Rattle.monitor_text.specs.Readings.{NodeReading, nodeReading, nodeCount, benchPoints}
 use Rattle.monitor_text.specs.ReadingsLaws.{bench-most}
-use Rattle.monitor_text.specs.MonitorGrammar.{pointWord, pointLine, pointSaid, pointRows, pointsSaid}
+use Rattle.monitor_text.specs.MonitorGrammar.{pointWord, pointLine, pointSaid, pointValues, pointsSaid}
 use Rattle.monitor_text.specs.MonitorText.{benchMore, pointsRead}
 
 -- ---- points and the lines that say them
 
-pub said-rows : (ps : List NodeReading) → pointsSaid (pointRows ps) ≡ ps
-unfolding pointsSaid pointRows
-said-rows [] = refl
-said-rows (p ∷ ps) = ap (λ (l : List NodeReading). p ∷ l) (said-rows ps)
+pub said-values : (ps : List NodeReading) → pointsSaid (pointValues ps) ≡ ps
+unfolding pointsSaid pointValues
+said-values [] = refl
+said-values (p ∷ ps) = ap (λ (l : List NodeReading). p ∷ l) (said-values ps)
 
-pub rows-said : (xs : List (Says pointLine)) → pointRows (pointsSaid xs) ≡ xs
-unfolding pointsSaid pointRows
-rows-said [] = refl
-rows-said (x ∷ xs) = ap (λ (l : List (Says pointLine)). x ∷ l) (rows-said xs)
+pub values-said : (xs : List (Says pointLine)) → pointValues (pointsSaid xs) ≡ xs
+unfolding pointsSaid pointValues
+values-said [] = refl
+values-said (x ∷ xs) = ap (λ (l : List (Says pointLine)). x ∷ l) (values-said xs)
 
 pub said-length : (xs : List (Says pointLine)) → length (pointsSaid xs) ≡ length xs
 unfolding pointsSaid
@@ -72,27 +72,27 @@ bench-snoc (q ∷ ps) p = go (ltb (q .node) nodeCount) (bench-snoc ps p)
 
 -- `count` point lines stand from `at` on up to the line at i, and `good` of them come before the first whose node is over the last one
 pub record PointsUpTo (s : List ℕ) (at count good i : ℕ) : Type 0 where
-  pub rows : List (Says pointLine)
-  pub upto : ReadUpTo (line pointLine) s at rows i
-  pub counted : count ≡ length rows
-  pub bench : good ≡ benchPoints (pointsSaid rows)
+  pub vss : List (Says pointLine)
+  pub upto : ReadUpTo (line pointLine) s at vss i
+  pub counted : count ≡ length vss
+  pub bench : good ≡ benchPoints (pointsSaid vss)
 
 pub points-start : (s : List ℕ) (at : ℕ) → PointsUpTo s at 0 0 at
 unfolding pointsSaid benchPoints
-points-start s at = record { rows = []; upto = read-up-start (line pointLine) s at; counted = refl; bench = refl }
+points-start s at = record { vss = []; upto = read-up-start (line pointLine) s at; counted = refl; bench = refl }
 
 module _ {s : List ℕ} {at count good i : ℕ} (u : PointsUpTo s at count good i) where
   pub points-most : (good ≤ count) × (count ≤ length s)
   points-most =
-      (omega (arith, u .counted, u .bench, said-length (u .rows), bench-most (pointsSaid (u .rows))), omega (arith, u .counted, u .upto .fit))
+      (omega (arith, u .counted, u .bench, said-length (u .vss), bench-most (pointsSaid (u .vss))), omega (arith, u .counted, u .upto .fit))
 
   module _ {l : LineRead} (e : l ≡ lineReadAt pointWord (number ∷ signed ∷ []) s i) where
     module _ {next : ℕ} (q : l .next ≡ At next) where
       x : SeenLine pointWord (number ∷ signed ∷ []) s i l next
       x = line-seen pointWord (number ∷ signed ∷ []) s i e q
 
-      node-is : getD (l .values) 0 0 ≡ x .row .0
-      unfolding placesOf codes
+      node-is : getD (l .values) 0 0 ≡ x .vs .0
+      unfolding slotsOf codes
       node-is = ap (λ (v : List ℕ). getD v 0 0) (x .values)
 
       pub point-ahead : (i < next) × (next ≤ length s)
@@ -100,17 +100,17 @@ module _ {s : List ℕ} {at count good i : ℕ} (u : PointsUpTo s at count good 
 
       pub points-more : {good′ : ℕ} → good′ ≡ benchMore count good (getD (l .values) 0 0) → PointsUpTo s at (count + 1) good′ next
       points-more {good′} g =
-          let n : length (pointsSaid (u .rows)) ≡ count = said-length (u .rows) ∙ sym (u .counted) in
+          let n : length (pointsSaid (u .vss)) ≡ count = said-length (u .vss) ∙ sym (u .counted) in
           record {
-            rows = u .rows ++ (x .row ∷ []);
+            vss = u .vss ++ (x .vs ∷ []);
             upto = read-up-more (x .is) (u .upto);
-            counted = omega (arith, u .counted, length-append (u .rows) (x .row ∷ []));
+            counted = omega (arith, u .counted, length-append (u .vss) (x .vs ∷ []));
             bench =
                 g ∙ ap (λ (k : ℕ). benchMore count good k) node-is
-                ∙ ap (λ (k : ℕ). benchMore count k (x .row .0)) (u .bench)
-                ∙ ap (λ (k : ℕ). benchMore k (benchPoints (pointsSaid (u .rows))) (x .row .0)) (sym n)
-                ∙ sym (bench-snoc (pointsSaid (u .rows)) (pointSaid (x .row)))
-                ∙ sym (ap benchPoints (said-snoc (u .rows) (x .row)));
+                ∙ ap (λ (k : ℕ). benchMore count k (x .vs .0)) (u .bench)
+                ∙ ap (λ (k : ℕ). benchMore k (benchPoints (pointsSaid (u .vss))) (x .vs .0)) (sym n)
+                ∙ sym (bench-snoc (pointsSaid (u .vss)) (pointSaid (x .vs)))
+                ∙ sym (ap benchPoints (said-snoc (u .vss) (x .vs)));
           }
 
     -- the line at i is no point line
@@ -127,12 +127,12 @@ module _ {s : List ℕ} {at count good i : ℕ} (u : PointsUpTo s at count good 
 -- what the parser gives is what is seen
 pub point-seen : (s : List ℕ) (i : ℕ) {l : LineRead} → l ≡ lineReadAt pointWord (number ∷ signed ∷ []) s i → {next : ℕ} → l .next ≡ At next
     → seen (line pointLine) s i ≡ found (getD (l .values) 0 0, (lowered (getD (l .values) 1 0), tt)) next
-unfolding placesOf codes RowFits
+unfolding slotsOf codes ValuesFit
 point-seen s i {l} e {next} q =
     let x = line-seen pointWord (number ∷ signed ∷ []) s i e q in
-    let node : x .row .0 ≡ getD (l .values) 0 0 = sym (ap (λ (v : List ℕ). getD v 0 0) (x .values)) in
-    let reading : x .row .1 .0 ≡ lowered (getD (l .values) 1 0) =
-    sym (ap (λ (v : List ℕ). lowered (getD v 1 0)) (x .values) ∙ lowered-raised (x .row .1 .0) (x .fits .1 .0)) in
+    let node : x .vs .0 ≡ getD (l .values) 0 0 = sym (ap (λ (v : List ℕ). getD v 0 0) (x .values)) in
+    let reading : x .vs .1 .0 ≡ lowered (getD (l .values) 1 0) =
+    sym (ap (λ (v : List ℕ). lowered (getD v 1 0)) (x .values) ∙ lowered-raised (x .vs .1 .0) (x .fits .1 .0)) in
     x .is ∙ (λ k. found (node k, (reading k, tt)) next)
 
 pub no-point-seen : (s : List ℕ) (i : ℕ) {l : LineRead} → l ≡ lineReadAt pointWord (number ∷ signed ∷ []) s i → l .next ≡ Absent

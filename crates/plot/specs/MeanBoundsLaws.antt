@@ -3,7 +3,7 @@ use mathlib.Core.Path.{_≡_}
 use Prim.Native.Nat.{ℕ, _+_, _-_, _*_, _/_, _%_, _^_, _≤_, _<_}
 use native.Mathlib.Omega.{arith}
 use Rattle.runlength.specs.Scale.{maxHorizon, unitsPerOne}
-use Rattle.summary.specs.ErrorBound.{maxErrorBound}
+use Rattle.summary.specs.ErrorBoundLaws.{maxErrorBound}
 use Rattle.plot.specs.MeanBounds.{partsPerOne, unitsPerPart, roundDown, roundUp}
 
 -- rounded down: the whole part's parts, and those of the fraction

@@ -5,14 +5,15 @@ use Rattle.table.specs.Table.{TableCall, meanOf}
 use Rattle.summary.specs.declared.Summary.{Summary}
 use Rattle.summary.specs.declared.SummaryAnswer.{SummaryAnswer}
 use Rattle.summary.specs.declared.SummaryAnswer.the-variants as summary
-use Rattle.summary.specs.Summary.{SummaryResult, summaryOf}
-use Rattle.summary.specs.ErrorBound.{maxErrorBound}
+use Rattle.summary.specs.Summary.{summaryOf}
+use Rattle.summary.specs.ErrorBoundLaws.{maxErrorBound}
 use Rattle.plot.specs.declared.PlotRecord.{PlotRecord}
 use Rattle.plot.specs.declared.BoxPlotAnswer.{BoxPlotAnswer}
 use Rattle.plot.specs.declared.BoxPlotAnswer.the-variants as plot
 use Rattle.plot.specs.Double.{nearestTo}
 use Rattle.plot.specs.MeanBounds.{partsPerOne, roundDown, roundUp, MeanFits}
 use Rattle.plot.specs.Item.{itemOf, Ordered, spreadOf}
+use Rattle.table.specs.Table.{CallResult, callResult}
 
 -- the mean's lower and upper value in parts of 2^-36: rounded down; with its error bound, rounded up
 abbrev pub lowerParts : Summary → ℕ
@@ -41,23 +42,14 @@ pub record Plottable (s : Summary) : Type 0 where
   pub error : s .«error_bound» ≤ maxErrorBound
   pub ordered : Ordered (s .p25) (s .p75)
 
--- the answer, and the two lists as they then are
-pub record BoxPlotResult : Type 0 where
-  pub answer : BoxPlotAnswer
-  pub pmfList : List ℕ
-  pub survivalList : List ℕ
-
-abbrev pub boxPlotResult : BoxPlotAnswer → List ℕ → List ℕ → BoxPlotResult
-boxPlotResult a p s = record { answer = a; pmfList = p; survivalList = s }
-
 -- by the summary; refused as the table is
 unfoldable pub plotBy : SummaryAnswer → BoxPlotAnswer
 plotBy (summary.Accepted s) = plot.Accepted (recordOf s)
 plotBy (summary.Refused x) = plot.Refused x
 
 -- with the lists that the table's run left
-abbrev pub plotAfter : SummaryResult → BoxPlotResult
-plotAfter r = boxPlotResult (plotBy (r .answer)) (r .pmfList) (r .survivalList)
+abbrev pub plotAfter : CallResult SummaryAnswer → CallResult BoxPlotAnswer
+plotAfter r = callResult (plotBy (r .answer)) (r .pmfList) (r .survivalList)
 
-unfoldable pub boxPlotOf : TableCall → BoxPlotResult
+unfoldable pub boxPlotOf : TableCall → CallResult BoxPlotAnswer
 boxPlotOf t = plotAfter (summaryOf t)

@@ -12,7 +12,7 @@ use Rattle.table.specs.Table.{TableCall, pmfOf}
 use Rattle.summary.specs.declared.Summary.{Summary}
 use Rattle.summary.specs.declared.SummaryAnswer.{SummaryAnswer}
 use Rattle.summary.specs.declared.SummaryAnswer.the-variants as summary
-use Rattle.summary.specs.Summary.{summaryBy, SummaryResult, summaryResult, summaryOf}
+use Rattle.summary.specs.Summary.{summaryBy, summaryOf}
 use Rattle.summary.specs.AcceptedSummary.{AcceptedSummary}
 use Rattle.summary.specs.SummaryLaws.{accepted-summary}
 use Rattle.plot.specs.declared.PlotRecord.{PlotRecord}
@@ -23,11 +23,12 @@ use Rattle.plot.specs.MeanBoundsLaws.{down-fits, up-fits}
 use Rattle.plot.specs.Item.{pointOf, inOrder, Ordered, spread}
 use Rattle.plot.specs.Shown.{ShowsSpread, ShowsSummary}
 use Rattle.plot.specs.ItemLaws.{number, shown, point-found, ordered}
-use Rattle.plot.specs.Plot.{lowerParts, upperParts, recordOf, Plottable, boxPlotResult, plotBy, boxPlotOf}
+use Rattle.plot.specs.Plot.{lowerParts, upperParts, recordOf, Plottable, plotBy, boxPlotOf}
+use Rattle.table.specs.Table.{CallResult, callResult}
 
 -- ---- a summary of accepted chances
 
--- the difference of two points in order, in the list's places, is shown exactly
+-- the difference of two points in order, in the list's numbers, is shown exactly
 spread-shown : (x y : Option ℕ) → inOrder x y → ((k : ℕ) → y ≡ some k → k ≤ maxHorizon) → (r : PlotRecord) → r .iqr ≡ spread x y .iqr
     → r .«has_iqr» ≡ spread x y .«has_iqr» → ShowsSpread x y r
 spread-shown (some a) (some b) o h r e m = (o, rw e (number (b - a) (omega (arith, h b refl))), m)
@@ -36,7 +37,7 @@ spread-shown none y o h r e m = (rw e (number 0 (omega arith)), m)
 
 module _ {t : TableCall} {s : Summary} (a : AcceptedSummary t s) where
   short : length (pmfOf t) ≤ maxHorizon
-  short = omega (arith, a .table .pmf-length, a .table .chart .most-horizon)
+  short = omega (arith, a .table .pmf-length, a .table .chain .most-horizon)
 
   mean-fits : MeanFits (s .figures)
   mean-fits = record { whole = a .table .mean-most; fraction = a .table .mean-part }
@@ -71,16 +72,16 @@ module _ {t : TableCall} {s : Summary} (a : AcceptedSummary t s) where
 
 -- ---- the operation, by the summary of one run of the table
 
-module _ (t : TableCall) {a : SummaryAnswer} {p q : List ℕ} (run : summaryResult a p q ≡ summaryOf t) where
-  pub refused-plot : {x : Refusal} → a ≡ summary.Refused x → boxPlotResult (BoxPlotAnswer.Refused x) p q ≡ boxPlotOf t
+module _ (t : TableCall) {a : SummaryAnswer} {p q : List ℕ} (run : callResult a p q ≡ summaryOf t) where
+  pub refused-plot : {x : Refusal} → a ≡ summary.Refused x → callResult (BoxPlotAnswer.Refused x) p q ≡ boxPlotOf t
   unfolding boxPlotOf plotBy
   refused-plot e = rw (← run, e)
 
   module _ {s : Summary} (accepted : a ≡ summary.Accepted s) where
     pub left-plottable : Plottable s
-    left-plottable = summary-plottable (accepted-summary t s (ap (λ (r : SummaryResult). r .answer) (sym run) ∙ accepted))
+    left-plottable = summary-plottable (accepted-summary t s (ap (λ (r : CallResult SummaryAnswer). r .answer) (sym run) ∙ accepted))
 
-    pub accepted-plot : {r : PlotRecord} → r ≡ recordOf s → boxPlotResult (BoxPlotAnswer.Accepted r) p q ≡ boxPlotOf t
+    pub accepted-plot : {r : PlotRecord} → r ≡ recordOf s → callResult (BoxPlotAnswer.Accepted r) p q ≡ boxPlotOf t
     unfolding boxPlotOf plotBy
     accepted-plot e = rw (← run, accepted, e)
 

@@ -5,8 +5,8 @@ use mathlib.Core.Option.{Option, none, some}
 use Prim.Native.Nat.{ℕ, _-_, _≤_}
 use lib.Ieee.{Float}
 use lib.Ieee.Exact.{HasValue}
-use Rattle.bracket.specs.declared.Place.{Place}
-use Rattle.bracket.specs.declared.Place.the-variants as place
+use Rattle.bracket.specs.declared.Bracket.{Bracket}
+use Rattle.bracket.specs.declared.Bracket.the-variants as bracket
 use Rattle.summary.specs.declared.Summary.{Summary}
 use Rattle.plot.specs.declared.PlotItem.{PlotItem}
 use Rattle.plot.specs.declared.PlotItem.the-variants as item
@@ -15,13 +15,13 @@ use Rattle.plot.specs.MeanBounds.{partsPerOne}
 use Rattle.plot.specs.Item.{pointOf}
 use Rattle.plot.specs.Plot.{lowerParts, upperParts}
 
--- the item's doubles are finite and exactly the place's numbers
-pub data Shows : Place → PlotItem → Type 0 where
-  point : (n : ℕ) (x : Float) → HasValue x false n 1 → Shows (place.At n) (item.Point x)
+-- the item's doubles are finite and exactly the bracket's numbers
+pub data Shows : Bracket → PlotItem → Type 0 where
+  point : (n : ℕ) (x : Float) → HasValue x false n 1 → Shows (bracket.At n) (item.Point x)
   span : (low high : ℕ) (x y : Float) → HasValue x false low 1 → HasValue y false high 1
-      → Shows (place.Between low high) (item.Span x y)
-  from : (low : ℕ) (x : Float) → HasValue x false low 1 → Shows (place.Open low) (item.Open x)
-  beyond : (h : ℕ) (x : Float) → HasValue x false h 1 → Shows (place.Beyond h) (item.Beyond x)
+      → Shows (bracket.Between low high) (item.Span x y)
+  from : (low : ℕ) (x : Float) → HasValue x false low 1 → Shows (bracket.Open low) (item.Open x)
+  beyond : (h : ℕ) (x : Float) → HasValue x false h 1 → Shows (bracket.Beyond h) (item.Beyond x)
 
 -- the double is exactly the difference of two points, which stand in order, and marked as held; with one point or none it is 0 and not held
 abbrev pub ShowsSpread : Option ℕ → Option ℕ → PlotRecord → Type 0
@@ -29,7 +29,7 @@ ShowsSpread (some a) (some b) r = (a ≤ b) × HasValue (r .iqr) false (b - a) 1
 ShowsSpread (some a) none r = HasValue (r .iqr) false 0 1 × (r .«has_iqr» ≡ false)
 ShowsSpread none q r = HasValue (r .iqr) false 0 1 × (r .«has_iqr» ≡ false)
 
--- the record shows a summary: its five places, their quartiles' difference, and its mean's two bounds
+-- the record shows a summary: its five brackets, their quartiles' difference, and its mean's two bounds
 pub record ShowsSummary (s : Summary) (r : PlotRecord) : Type 0 where
   pub item5 : Shows (s .p5) (r .p5)
   pub item25 : Shows (s .p25) (r .p25)

@@ -1,5 +1,5 @@
 // The plot record of a rule list: five percentile items, the restricted mean's two bounds and the interquartile range, in exact doubles.
-use bracket::Place;
+use bracket::Bracket;
 use rules::Refusal;
 use rules::RuleList;
 use rules::ZONES;
@@ -11,11 +11,12 @@ ghost use mathlib.Core.Path.{_≡_};
 ghost use Prim.Native.Nat.{_+_, _*_, _<_, _≤_};
 ghost use Rattle.runlength.specs.Scale.{maxHorizon};
 ghost use Rattle.table.specs.Table.{tableCall, meanOf};
-ghost use Rattle.summary.specs.ErrorBound.{maxErrorBound};
+ghost use Rattle.summary.specs.ErrorBoundLaws.{maxErrorBound};
 ghost use Rattle.plot.specs.Double.{Exactly};
 ghost use Rattle.plot.specs.Item.{itemOf, Ordered, spreadOf};
 ghost use Rattle.plot.specs.MeanBounds.{partsPerOne, roundDown, roundUp, MeanFits};
-ghost use Rattle.plot.specs.Plot.{recordOf, Plottable, boxPlotResult, boxPlotOf};
+ghost use Rattle.plot.specs.Plot.{recordOf, Plottable, boxPlotOf};
+ghost use Rattle.table.specs.Table.{callResult};
 
 // A percentile for the plotter: at a number, between two, at one or above, or beyond the horizon.
 pub enum PlotItem {
@@ -85,30 +86,30 @@ fn upper_mean(figures: TableFigures, error: u64) -> f64
     exact_mean(whole + parts / PARTS_PER_ONE, parts % PARTS_PER_ONE)
 }
 
-// The item of a percentile's place.
-fn plot_item(place: Place) -> PlotItem
-    ensures { λ r. ⌜ r ≡ itemOf place ⌝ }
+// The item of a percentile's bracket.
+fn plot_item(found: Bracket) -> PlotItem
+    ensures { λ r. ⌜ r ≡ itemOf found ⌝ }
 {
-    match place {
-        Place::At(n) => PlotItem::Point(n as f64),
-        Place::Between { low, high } => PlotItem::Span(low as f64, high as f64),
-        Place::Open(low) => PlotItem::Open(low as f64),
-        Place::Beyond(horizon) => PlotItem::Beyond(horizon as f64),
+    match found {
+        Bracket::At(n) => PlotItem::Point(n as f64),
+        Bracket::Between { low, high } => PlotItem::Span(low as f64, high as f64),
+        Bracket::Open(low) => PlotItem::Open(low as f64),
+        Bracket::Beyond(horizon) => PlotItem::Beyond(horizon as f64),
     }
 }
 
-// The interquartile range by the places of 25 and 75.
-fn quartile_spread(q25: Place, q75: Place) -> Spread
+// The interquartile range by the brackets of 25 and 75.
+fn quartile_spread(q25: Bracket, q75: Bracket) -> Spread
     requires { ⌜ Ordered q25 q75 ⌝ }
     ensures { λ r. ⌜ r ≡ spreadOf q25 q75 ⌝ }
 {
-    let Place::At(from) = q25 else {
+    let Bracket::At(from) = q25 else {
         return Spread {
             iqr: 0.0,
             has_iqr: false,
         };
     };
-    let Place::At(to) = q75 else {
+    let Bracket::At(to) = q75 else {
         return Spread {
             iqr: 0.0,
             has_iqr: false,
@@ -153,7 +154,7 @@ pub fn box_plot(
     pmf: &mut [u64],
     survival: &mut [u64],
 ) -> BoxPlotAnswer
-    ensures { λ r. ⌜ boxPlotResult r (now (pmf .exit)) (now (survival .exit))
+    ensures { λ r. ⌜ callResult r (now (pmf .exit)) (now (survival .exit))
         ≡ boxPlotOf (tableCall list weights horizon (now (pmf .entry)) (now (survival .entry))) ⌝ }
 {
     let answer = table_summary(list, weights, horizon, pmf, survival);

@@ -1,7 +1,7 @@
 // The figures of one chart that sources publish.
 use crate::decimal::Exact;
+use bracket::Bracket;
 use bracket::BracketAnswer;
-use bracket::Place;
 use rules::RuleList;
 use rules::ZONES;
 use runlength::MAX_HORIZON;
@@ -27,10 +27,10 @@ const NEGLIGIBLE: u64 = 1024;
 const LONGEST: usize = MAX_HORIZON as usize;
 
 fn exactly(answer: BracketAnswer) -> u64 {
-    let BracketAnswer::Accepted(place) = answer else {
+    let BracketAnswer::Accepted(found) = answer else {
         return 0;
     };
-    let Place::At(n) = place else {
+    let Bracket::At(n) = place else {
         return 0;
     };
     n as u64

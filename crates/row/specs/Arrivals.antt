@@ -6,7 +6,7 @@ use lib.ListN.{length, getD}
 use Rattle.rules.specs.Bounds.{zoneCount, maxStates}
 use Rattle.runlength.specs.Sum.{sum, at}
 use Rattle.runlength.specs.Scale.{weightTotal, unitsPerOne}
-use Rattle.sources.specs.Sources.{gathered, weighed, come, Inside, Light}
+use Rattle.sources.specs.Sources.{gathered, weighed, come, SourcesBelow, Light}
 
 -- the units of the source at i
 abbrev pub unitsAt : List ℕ → List ℕ → ℕ → ℕ
@@ -18,17 +18,17 @@ pairAt us src i = unitsAt us src i + unitsAt us src (i + 1)
 
 pub record CanRead (us src : List ℕ) (i : ℕ) : Type 0 where
   pub within : i < length src
-  pub inside : Inside src (length us)
+  pub inside : SourcesBelow src (length us)
 
 pub record CanPair (us src : List ℕ) (i : ℕ) : Type 0 where
   pub within : i + 1 < length src
-  pub inside : Inside src (length us)
+  pub inside : SourcesBelow src (length us)
   pub room : pairAt us src i ≤ unitsPerOne
 
 pub record CanGather (us src : List ℕ) (b e : ℕ) : Type 0 where
   pub order : b ≤ e
   pub within : e ≤ length src
-  pub inside : Inside src (length us)
+  pub inside : SourcesBelow src (length us)
   pub room : gathered src (at us) e ≤ gathered src (at us) b + unitsPerOne
 
 -- r is the sum of the units of the sources from b to before e
@@ -47,7 +47,7 @@ pub record Weighed (us src : List ℕ) (b e w high low : ℕ) : Type 0 where
 
 -- the groups of n states with the units us: no group gathers more than probability one, and no more than that comes in at all
 pub record Flows (us src fs ws gs : List ℕ) (n : ℕ) : Type 0 where
-  pub inside : Inside src (length us)
+  pub inside : SourcesBelow src (length us)
   pub light : Light ws
   pub order : (i j : ℕ) → i ≤ j → j ≤ getD gs n 0 → getD fs i 0 ≤ getD fs j 0
   pub within : getD fs (getD gs n 0) 0 ≤ length src

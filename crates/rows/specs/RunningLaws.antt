@@ -18,8 +18,8 @@ use Rattle.runlength.specs.Chain.{Chain, Proper, inflow, signalled, units, pmf,
 use Rattle.runlength.specs.ListedLaws.{listed-proper}
 use Rattle.runlength.specs.FlowLaws.{step-conservation}
 use Rattle.runlength.specs.Scale.{weightTotal, unitsPerOne}
-use Rattle.sources.specs.MoreLaws.{getD-zeros}
-use Rattle.sources.specs.Sources.{come, CanListSources, Listed}
+use Rattle.runlength.specs.SetLaws.{getD-zeros}
+use Rattle.sources.specs.Sources.{come, CanListSources, SourcesListed}
 use Rattle.rows.specs.Rows.{chain, CanRun, Ran}
 use Rattle.row.specs.Arrivals.{Flows}
 use Rattle.row.specs.OneRow.{CanRow, RowDone, CanPoint, PointDone}
@@ -93,7 +93,7 @@ module _ {m : List ℕ} {n : ℕ} {w : List ℕ} {h : ℕ} {ps ss : List ℕ} (p
   }
 
   module _ {k : ℕ} {us ps′ ss′ : List ℕ} {last whole fraction : ℕ} (s : Running m n w k ps ss us ps′ ss′ last whole fraction)
-      {src fs ws gs st : List ℕ} (g : Listed m n w src fs ws gs st) where
+      {src fs ws gs st : List ℕ} (g : SourcesListed m n w src fs ws gs st) where
     -- while units are left
     module _ (o : 0 < last) where
       all : sum n (at us) ≡ last

@@ -12,14 +12,14 @@ use Rattle.rules.specs.Refusal.{notRefused, badLine}
 use Rattle.decimal.specs.declared.word.Found.{Found}
 use Rattle.decimal.specs.declared.word.Found.the-variants.{At, Absent}
 use Rattle.decimal.specs.Word.{wordAt, onFound}
-use Rattle.grammar.specs.Row.{Field, number}
+use Rattle.grammar.specs.LineValues.{Field, number}
 use Rattle.grammar.specs.Form.{Says, line}
-use Rattle.grammar.specs.Reading.{Seen, found, other, onSeen, seen, manyAt, afterMany}
+use Rattle.grammar.specs.TextReading.{Seen, found, other, onSeen, seen, manyAt, afterMany}
 use Rattle.grammar.specs.FormLaws.{least}
-use Rattle.grammar.specs.StepLaws.{line-reaches, many-short}
+use Rattle.grammar.specs.BlockLaws.{line-reaches, many-short}
 use Rattle.grammar.specs.TurnLaws.{ReadUpTo, read-up-start, read-up-more, read-up-done}
 use Rattle.text.specs.declared.lines.LineRead.{LineRead}
-use Rattle.text.specs.LineRead.{mostFields, placesOf, codes, lineReadAt}
+use Rattle.text.specs.LineRead.{mostFields, slotsOf, codes, lineReadAt}
 use Rattle.text.specs.LineReadLaws.{line-seen, line-none}
 use Rattle.rule_lines.specs.declared.rule_lines.RuleLine.{RuleLine}
 use Rattle.rule_lines.specs.declared.rule_lines.RulesRead.{RulesRead}
@@ -36,8 +36,8 @@ abbrev told : Seen (Says ruleLine) → Found → RuleLine
 told y w = onSeen y (λ x n. RuleLine.Rule (x .0) (x .1 .0) (x .1 .1 .0) n) (onFound w (λ p. RuleLine.Unreadable) RuleLine.Absent)
 
 given : {y : Seen (Says ruleLine)} (w : Found) {vs : List ℕ} {x : Says ruleLine} {next : ℕ} → y ≡ found x next
-    → vs ≡ placesOf mostFields (codes threeNumbers x) → RuleLine.Rule (getD vs 0 0) (getD vs 1 0) (getD vs 2 0) next ≡ told y w
-unfolding placesOf codes
+    → vs ≡ slotsOf mostFields (codes threeNumbers x) → RuleLine.Rule (getD vs 0 0) (getD vs 1 0) (getD vs 2 0) next ≡ told y w
+unfolding slotsOf codes
 given w e v = rw (e, v)
 
 module _ (s : List ℕ) (at : ℕ) {r : LineRead} (e : r ≡ lineReadAt ruleWord threeNumbers s at) where
@@ -58,9 +58,9 @@ module _ (s : List ℕ) (at : ℕ) {r : LineRead} (e : r ≡ lineReadAt ruleWord
 
 -- a rule, and what is seen
 pub record RuleSeen (s : List ℕ) (at k m zones next : ℕ) : Type 0 where
-  pub row : Says ruleLine
-  pub is : seen (line ruleLine) s at ≡ found row next
-  pub rule : ruleOf k m zones ≡ ruleSaid row
+  pub vs : Says ruleLine
+  pub is : seen (line ruleLine) s at ≡ found vs next
+  pub rule : ruleOf k m zones ≡ ruleSaid vs
 
 abbrev ruleIn : Rule → RuleLine → Rule
 ruleIn d (RuleLine.Rule k m zones next) = ruleOf k m zones
@@ -82,7 +82,7 @@ module _ (s : List ℕ) (at : ℕ) where
           → RuleSeen s at k m zones next
       go (found x n) q w e =
           record {
-            row = x;
+            vs = x;
             is = q ∙ ap (λ (i : ℕ). found x i) (ap nextIn e);
             rule = sym (ap (ruleIn (ruleOf 0 0 0)) e);
           }
@@ -123,18 +123,18 @@ module _ (s : List ℕ) (at : ℕ) where
 
 -- the list l holds the rules from `at` on up to the line at i
 pub record HoldsRules (s : List ℕ) (at : ℕ) (l : RuleList) (i : ℕ) : Type 0 where
-  pub rows : List (Says ruleLine)
-  pub upto : ReadUpTo (line ruleLine) s at rows i
-  pub held : l ≡ ruleListOf (rulesSaid rows)
+  pub vss : List (Says ruleLine)
+  pub upto : ReadUpTo (line ruleLine) s at vss i
+  pub held : l ≡ ruleListOf (rulesSaid vss)
 
 pub holds-start : (s : List ℕ) (at : ℕ) (l : RuleList) → l ≡ ruleListOf [] → HoldsRules s at l at
 unfolding rulesSaid
-holds-start s at l e = record { rows = []; upto = read-up-start (line ruleLine) s at; held = e }
+holds-start s at l e = record { vss = []; upto = read-up-start (line ruleLine) s at; held = e }
 
 module _ {s : List ℕ} {at : ℕ} {l : RuleList} {i : ℕ} (h : HoldsRules s at l i) where
-  pub holds-count : l .len ≡ length (h .rows)
+  pub holds-count : l .len ≡ length (h .vss)
   unfolding ruleListOf
-  holds-count = ap (λ (x : RuleList). x .len) (h .held) ∙ said-length (h .rows)
+  holds-count = ap (λ (x : RuleList). x .len) (h .held) ∙ said-length (h .vss)
 
   pub holds-few : l .len ≤ length s
   holds-few = omega (arith, holds-count, h .upto .fit)
@@ -144,16 +144,16 @@ module _ {s : List ℕ} {at : ℕ} {l : RuleList} {i : ℕ} (h : HoldsRules s at
   holds-more k m zones next e =
       let x = rule-seen s i k m zones next e in
       record {
-        rows = h .rows ++ (x .row ∷ []);
+        vss = h .vss ++ (x .vs ∷ []);
         upto = read-up-more (x .is) (h .upto);
         held =
-            ap₂ pushed (h .held) (x .rule) ∙ pushed-list (rulesSaid (h .rows)) (ruleSaid (x .row))
-            ∙ ap ruleListOf (sym (said-snoc (h .rows) (x .row)));
+            ap₂ pushed (h .held) (x .rule) ∙ pushed-list (rulesSaid (h .vss)) (ruleSaid (x .vs))
+            ∙ ap ruleListOf (sym (said-snoc (h .vss) (x .vs)));
       }
 
   -- the line at i is no rule line: all is read
   module _ (first : ℕ) (n : seen (line ruleLine) s i ≡ other) where
-    all : (h .rows ≡ manyAt (line ruleLine) (length s) s at) × (i ≡ afterMany (line ruleLine) (length s) s at)
+    all : (h .vss ≡ manyAt (line ruleLine) (length s) s at) × (i ≡ afterMany (line ruleLine) (length s) s at)
     all = read-up-done n (h .upto)
 
     list : l ≡ ruleListOf (rulesSaid (manyAt (line ruleLine) (length s) s at))

@@ -11,9 +11,9 @@ use Rattle.rules.specs.Check.{noRule}
 use Rattle.rules.specs.Ready.{ruleOf}
 use Rattle.rules.specs.Refusal.{notRefused, badLine}
 use Rattle.decimal.specs.Word.{wordAt, onFound}
-use Rattle.grammar.specs.Row.{number}
+use Rattle.grammar.specs.LineValues.{number}
 use Rattle.grammar.specs.Form.{Kind, named, Says, line}
-use Rattle.grammar.specs.Reading.{onSeen, seen, manyAt, afterMany}
+use Rattle.grammar.specs.TextReading.{onSeen, seen, manyAt, afterMany}
 use Rattle.rule_lines.specs.declared.rule_lines.RuleLine.{RuleLine}
 use Rattle.rule_lines.specs.declared.rule_lines.RulesRead.{RulesRead}
 
@@ -26,15 +26,15 @@ abbrev pub ruleLine : Kind
 ruleLine = named ruleWord (number ∷ number ∷ number ∷ [])
 
 -- what the line of a rule says, and the rule that such a line says
-abbrev pub ruleRow : Rule → Says ruleLine
-ruleRow r = (r .k, (r .m, (r .zones, tt)))
+abbrev pub valuesOfRule : Rule → Says ruleLine
+valuesOfRule r = (r .k, (r .m, (r .zones, tt)))
 
 abbrev pub ruleSaid : Says ruleLine → Rule
 ruleSaid x = ruleOf (x .0) (x .1 .0) (x .1 .1 .0)
 
-unfoldable pub ruleRows : List Rule → List (Says ruleLine)
-ruleRows [] = []
-ruleRows (r ∷ rs) = ruleRow r ∷ ruleRows rs
+unfoldable pub ruleValues : List Rule → List (Says ruleLine)
+ruleValues [] = []
+ruleValues (r ∷ rs) = valuesOfRule r ∷ ruleValues rs
 
 unfoldable pub rulesSaid : List (Says ruleLine) → List Rule
 rulesSaid [] = []
@@ -66,11 +66,11 @@ ruleLineAt s at =
 -- all the rule lines from `at` on, where line `first` begins; the line behind them is refused if it begins as one
 unfoldable pub rulesRead : List ℕ → ℕ → ℕ → RulesRead
 rulesRead s at first =
-    let rows = manyAt (line ruleLine) (length s) s at in
+    let vss = manyAt (line ruleLine) (length s) s at in
     let end = afterMany (line ruleLine) (length s) s at in
     record {
-      refusal = onFound (wordAt ruleWord s end) (λ p. badLine (first + length rows)) notRefused;
-      list = ruleListOf (rulesSaid rows);
+      refusal = onFound (wordAt ruleWord s end) (λ p. badLine (first + length vss)) notRefused;
+      list = ruleListOf (rulesSaid vss);
       next = end;
-      line = first + length rows;
+      line = first + length vss;
     }

@@ -13,7 +13,7 @@ use Rattle.rules.specs.Bounds.{maxRules}
 use Rattle.rules.specs.Check.{noRule, rulesFrom, activeRules, checkOf}
 use Rattle.rules.specs.CheckLaws.{accepted}
 use Rattle.grammar.specs.Form.{Says}
-use Rattle.rule_lines.specs.Rules.{ruleLine, ruleSaid, ruleRows, rulesSaid, slotsOf, ruleListOf, pushed}
+use Rattle.rule_lines.specs.Rules.{ruleLine, ruleSaid, ruleValues, rulesSaid, slotsOf, ruleListOf, pushed}
 
 -- a rule more goes into the next slot
 slots-set : (n : ℕ) (rs : List Rule) (r : Rule) → length rs < n → set (slotsOf n rs) (length rs) r ≡ slotsOf n (rs ++ (r ∷ []))
@@ -70,15 +70,15 @@ rules-few rs q = accepted (ruleListOf rs) q .1
 
 -- ---- rules and the lines that say them
 
-pub said-rows : (rs : List Rule) → rulesSaid (ruleRows rs) ≡ rs
-unfolding rulesSaid ruleRows
-said-rows [] = refl
-said-rows (r ∷ rs) = ap (λ (l : List Rule). r ∷ l) (said-rows rs)
+pub said-values : (rs : List Rule) → rulesSaid (ruleValues rs) ≡ rs
+unfolding rulesSaid ruleValues
+said-values [] = refl
+said-values (r ∷ rs) = ap (λ (l : List Rule). r ∷ l) (said-values rs)
 
-pub rows-said : (xs : List (Says ruleLine)) → ruleRows (rulesSaid xs) ≡ xs
-unfolding rulesSaid ruleRows
-rows-said [] = refl
-rows-said (x ∷ xs) = ap (λ (l : List (Says ruleLine)). x ∷ l) (rows-said xs)
+pub values-said : (xs : List (Says ruleLine)) → ruleValues (rulesSaid xs) ≡ xs
+unfolding rulesSaid ruleValues
+values-said [] = refl
+values-said (x ∷ xs) = ap (λ (l : List (Says ruleLine)). x ∷ l) (values-said xs)
 
 pub said-length : (xs : List (Says ruleLine)) → length (rulesSaid xs) ≡ length xs
 unfolding rulesSaid

@@ -1,6 +1,8 @@
 pub mod Bounds
 pub mod ZoneSet
 pub mod Mask
+pub mod MaskLaws
+pub mod TestLaws
 pub mod Refusal
 pub mod Weights
 pub mod Check

@@ -83,11 +83,11 @@ module _ (a : Automaton ℕ) where
 
   module _ (n : ℕ) (closed : (s z t : ℕ) → s < n → z < a .zones → a .move s z ≡ quiet t → t < n) where
     -- one point more tells no more of the states apart
-    pub record Settled (k : ℕ) : Type 0 where
+    pub record LastRound (k : ℕ) : Type 0 where
       pub on : (i j : ℕ) → i < n → j < n → alikeFor a k i j ≡ true → alikeFor a (suc k) i j ≡ true
 
     -- so do two
-    settled-next : (k : ℕ) → Settled k → Settled (suc k)
+    settled-next : (k : ℕ) → LastRound k → LastRound (suc k)
     settled-next k p = record {
       on = λ i j h l e. step-alike a (suc k) i j (λ z g. go i j z h l g (alike-step a k i j e z g));
     }
@@ -103,23 +103,23 @@ module _ (a : Automaton ℕ) where
             → alikeMoves (alikeFor a (suc k)) (a .move i z) (a .move j z) ≡ true
         go i j z h l g e = each (a .move i z) (a .move j z) (λ x. closed i z x h g) (λ x. closed j z x l g) e
 
-    settled-on : (k d : ℕ) → Settled k → Settled (k + d)
+    settled-on : (k d : ℕ) → LastRound k → LastRound (k + d)
     settled-on k zero p = rw (add-zero k) p
     settled-on k (suc d) p = rw (add-suc k d) (settled-next (k + d) (settled-on k d p))
 
     -- and any number
-    pub settled-alike : (k d : ℕ) → Settled k → (i j : ℕ) → i < n → j < n → alikeFor a k i j ≡ true → alikeFor a (k + d) i j ≡ true
+    pub settled-alike : (k d : ℕ) → LastRound k → (i j : ℕ) → i < n → j < n → alikeFor a k i j ≡ true → alikeFor a (k + d) i j ≡ true
     settled-alike k zero p i j h l e = rw (add-zero k) e
     settled-alike k (suc d) p i j h l e = rw (add-suc k d) (settled-on k d p .on i j h l (settled-alike k d p i j h l e))
 
     -- a round that changes no leader is the last
-    pub same-settled : (k : ℕ) → ((i : ℕ) → i < n → leaderFor a (suc k) i ≡ leaderFor a k i) → Settled k
+    pub same-settled : (k : ℕ) → ((i : ℕ) → i < n → leaderFor a (suc k) i ≡ leaderFor a k i) → LastRound k
     same-settled k same = record {
       on = λ i j h l e. leader-same (suc k) i j (same i h ∙ same-leader k i j e ∙ sym (same j l));
     }
 
     -- the leaders stay
-    pub settled-leader : (k d : ℕ) → Settled k → (i : ℕ) → i < n → leaderFor a (k + d) i ≡ leaderFor a k i
+    pub settled-leader : (k d : ℕ) → LastRound k → (i : ℕ) → i < n → leaderFor a (k + d) i ≡ leaderFor a k i
     settled-leader k d p i h =
         let r = leaderFor a k i in
         let s = leaderFor a (k + d) i in
@@ -139,7 +139,7 @@ module _ (a : Automaton ℕ) where
         go false e = omega arith
 
     -- where no more lead, no leader changes
-    stall : (k : ℕ) → leadersFor a (suc k) n ≤ leadersFor a k n → Settled k
+    stall : (k : ℕ) → leadersFor a (suc k) n ≤ leadersFor a k n → LastRound k
     unfolding leadBefore
     stall k few = same-settled k (λ i h. go i h)
       where
@@ -156,23 +156,23 @@ module _ (a : Automaton ℕ) where
             let m = leader-most (suc k) i in
             sym (led r (omega arith) (leader-leads (suc k) i)) ∙ same-leader k r i (alike-less a k r i (leader-alike (suc k) i))
 
-    climbs : 0 < n → (k : ℕ) → Settled k ⊎ (k < leadersFor a k n)
+    climbs : 0 < n → (k : ℕ) → LastRound k ⊎ (k < leadersFor a k n)
     unfolding leadBefore
     climbs some zero =
         let one : only (leadsFor a 0 0) 1 ≡ 1 = ap (λ b. only b 1) (eq-eqb (leaderFor a 0 0) 0 (first-leads 0)) in
         inr (omega (arith, sum-term n 0 (λ j. only (leadsFor a 0 j) 1) some))
     climbs some (suc k) = go (climbs some k) (decLe (leadersFor a (suc k) n) (leadersFor a k n))
       where
-        go : Settled k ⊎ (k < leadersFor a k n) → Dec (leadersFor a (suc k) n ≤ leadersFor a k n) → Settled (suc k) ⊎ (suc k < leadersFor a (suc k) n)
+        go : LastRound k ⊎ (k < leadersFor a k n) → Dec (leadersFor a (suc k) n ≤ leadersFor a k n) → LastRound (suc k) ⊎ (suc k < leadersFor a (suc k) n)
         go (inl p) d = inl (settled-next k p)
         go (inr l) (yes h) = inl (settled-next k (stall k h))
         go (inr l) (no h) = inr (omega arith)
 
     -- n points are enough
-    pub settled : 0 < n → Settled n
+    pub settled : 0 < n → LastRound n
     settled some = go (climbs some n)
       where
-        go : Settled n ⊎ (n < leadersFor a n n) → Settled n
+        go : LastRound n ⊎ (n < leadersFor a n n) → LastRound n
         go (inl p) = p
         go (inr l) = absurd (omega (arith, lead-most (leaderFor a n) n))
 

@@ -11,5 +11,5 @@ module _ {A : Type 0} (a : Automaton A) where
     pub has-next : (s : A) → List·Memᴰ s xs → (z : ℕ) → z < a .zones → (t : A) → a .move s z ≡ quiet t → List·Memᴰ t xs
 
   -- quiet moves lead from the start to the state: it has every property that the start has and that quiet moves keep
-  pub record Reached (s : A) : Type 1 where
+  pub record CanBeReached (s : A) : Type 1 where
     pub by : (P : A → Type 0) → P (a .start) → ((r t : A) (z : ℕ) → P r → z < a .zones → a .move r z ≡ quiet t → P t) → P s

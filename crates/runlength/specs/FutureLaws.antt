@@ -21,6 +21,14 @@ test-suc i j = go (eqb i j) refl
     go true e = eq-eqb (suc i) (suc j) (ap suc (eqb-true i j e))
     go false e = ne-eqb (suc i) (suc j) (λ q. eqb-false i j e (omega arith))
 
+-- alike moves bring the same where only a signal brings anything
+pub to-signal : {A B : Type 0} (R : A → B → Type 0) (x : ℕ) (o : Move A) (k : Move B) → Alike R o k → after o x (λ r. 0) ≡ after k x (λ r. 0)
+unfolding Alike
+to-signal R x (quiet s) (quiet t) p = refl
+to-signal R x (quiet s) signal p = absurd p
+to-signal R x signal (quiet t) p = absurd p
+to-signal R x signal signal p = refl
+
 -- equal futures, the other way round
 pub future-sym : {A B : Type 0} (a : Automaton A) (b : Automaton B) {s : A} {t : B} → EqualFuture a b s t → EqualFuture b a t s
 future-sym a b e = record {

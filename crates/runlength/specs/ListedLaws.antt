@@ -1,10 +1,9 @@
 -- A chain given by the list of its moves is proper, and its states are the numbers below n. Laws.
 use mathlib.Core.Path.{_≡_}
 use mathlib.Core.Bool.{Bool, true, false, cond}
-use mathlib.Core.List.{List, [], _∷_, _++_, List·Memᴰ, List·Memᴰ·head, Memᴰ·append-left, Memᴰ·append-right}
-use Prim.Native.Nat.{ℕ, zero, suc, _+_, _*_, _<_}
+use mathlib.Core.List.{List}
+use Prim.Native.Nat.{ℕ, _+_, _*_, _<_}
 use native.Mathlib.Omega.{arith}
-use native.Mathlib.Decide.{decLt}
 use lib.Dec.{T, ltb, ltb→lt}
 use lib.ListN.{getD}
 use Rattle.runlength.specs.Scale.{weightTotal}
@@ -13,6 +12,7 @@ use Rattle.runlength.specs.Automaton.{Move, quiet, signal}
 use Rattle.runlength.specs.Chain.{Proper}
 use Rattle.runlength.specs.Listed.{entryMove, listedAutomaton, listedChain}
 use Rattle.runlength.specs.Fewest.{HoldsStates}
+use Rattle.runlength.specs.PigeonholeLaws.{in-numbers}
 
 -- the state that an entry leads to is one of the n states
 pub entry-in : (n x t : ℕ) → entryMove n x ≡ quiet t → t < n
@@ -32,16 +32,6 @@ module _ (zones n : ℕ) (moves : List ℕ) (weight : ℕ → ℕ) (some-state :
     base-pos = omega arith;
     whole-pos = omega arith;
   }
-
--- the list of the numbers below n holds what is below n
-in-numbers : (n i : ℕ) → i < n → List·Memᴰ i (tab n (λ i. i))
-unfolding tab
-in-numbers zero i h = absurd (omega arith)
-in-numbers (suc n) i h = go (decLt i n) (in-numbers n i)
-  where
-    go : Dec (i < n) → (i < n → List·Memᴰ i (tab n (λ i. i))) → List·Memᴰ i (tab n (λ i. i) ++ n ∷ [])
-    go (yes l) r = Memᴰ·append-left (n ∷ []) (r l)
-    go (no l) r = Memᴰ·append-right (tab n (λ i. i)) (List·Memᴰ·head (omega arith))
 
 pub listed-holds : (zones n : ℕ) (moves : List ℕ) → 0 < n → HoldsStates (listedAutomaton zones n moves) (tab n (λ i. i))
 listed-holds zones n moves some = record {

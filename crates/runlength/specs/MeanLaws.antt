@@ -7,7 +7,7 @@ use Rattle.runlength.specs.Sum.{sum, sumSequences}
 use Rattle.runlength.specs.SumLaws.{sum-cong, sum-add, sum-mul-right}
 use Rattle.runlength.specs.SequenceLaws.{sequences-cong-all, sequences-add, sequences-mul}
 use Rattle.runlength.specs.Automaton.{Automaton, Move, quiet, signal, after, product, runLength, exactSurvivalFrom, exactSurvival, exactRestrictedMean}
-use Rattle.runlength.specs.TotalMass.{product-total}
+use Rattle.runlength.specs.TotalMassLaws.{product-total}
 use Rattle.runlength.specs.Flow.{stepBack, exactRestrictedMeanFrom}
 use Rattle.runlength.specs.BackLaws.{survival-none, survival-step, stepBack-sum}
 

@@ -20,7 +20,7 @@ use Rattle.runlength.specs.LowestLaws.{lowest-found}
 use Rattle.runlength.specs.Merged.{leadBefore, leaderFor, leadsFor, leadersFor, classCount, classOf, firstOf, mergedMove, mergedAutomaton}
 use Rattle.runlength.specs.LeadLaws.{lead-less, lead-most}
 use Rattle.runlength.specs.ClassLaws.{leader-most, leader-leads, first-leads, leader-future, future-leader}
-use Rattle.runlength.specs.Fewest.{HoldsStates, Reached}
+use Rattle.runlength.specs.Fewest.{HoldsStates, CanBeReached}
 use Rattle.runlength.specs.FewestLaws.{fewest}
 
 -- ---- numbers of classes
@@ -171,7 +171,7 @@ module _ (a : Automaton ℕ) (n : ℕ) where
     -- ---- fewest
 
     -- where every state is reached, no chart that first signals on the same sequences has fewer states than there are classes
-    pub merged-fewest : ((i : ℕ) → i < n → Reached a i) → {B : Type 0} (b : Automaton B) (xs : List B)
+    pub merged-fewest : ((i : ℕ) → i < n → CanBeReached a i) → {B : Type 0} (b : Automaton B) (xs : List B)
         → HoldsStates b xs → EqualFuture a b (a .start) (b .start) → classCount a n ≤ length xs
     merged-fewest reached b xs holds same =
         fewest a b xs holds same (classCount a n) (firstOf a n) (λ c h. reached (firstOf a n c) (first-of c h .below))

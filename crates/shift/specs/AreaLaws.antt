@@ -1,4 +1,4 @@
--- CLAIM: the table of the normal area, over all its entries; and the laws that carry it from neighbours to any two entries.
+-- The table of the normal area, from neighbours to any two entries. Laws.
 use mathlib.Core.Bool.{Bool, true, false, not}
 use mathlib.Core.List.{List}
 use mathlib.Core.Path.{_≡_, refl, sym, ap, subst}
@@ -9,7 +9,7 @@ use native.Mathlib.Nat.{add-zero, le-refl, add-sub-of-le}
 use lib.Dec.{T, ltb, leb, ltb→lt, nltb→le, leb→le, lit<, lit≤}
 use lib.ListN.{length, getD, drop}
 use Rattle.shift.specs.Area.{areas, areaAt, lastArea, NormalTable}
-use Rattle.shift.specs.TableLaw.{both, both-first, both-second, along-at}
+use Rattle.shift.specs.NeighbourLaws.{both, both-first, both-second, along-at}
 
 -- ---- the test, computed once over the whole table
 

@@ -8,7 +8,8 @@ use lib.IntN.{pos, negℤ, subℕ, _-ℤ_}
 use borrow.Author.Tests.{lt-ltb, le-ltb, ltb-true, ltb-false}
 use Rattle.runlength.specs.Scale.{weightTotal}
 use Rattle.shift.specs.Area.{areaAt, lastArea}
-use Rattle.shift.specs.AreaLaws.{normal-table, area-rises, area-within, area-slows, area-joined}
+use Rattle.shift.specs.NormalArea.{normal-table}
+use Rattle.shift.specs.AreaLaws.{area-rises, area-within, area-slows, area-joined}
 use Rattle.shift.specs.Shift.{normalArea, areaBetween, maxShift}
 use Rattle.shift.specs.Below.{belowOf}
 use Rattle.shift.specs.DifferenceLaws.{Is, is-sub, is-neg, is-minus, is-same, is-as}

@@ -2,8 +2,10 @@ pub mod Area
 pub mod Shift
 pub mod Shifted
 pub mod Below
-pub mod TableLaw
+pub mod NeighbourLaws
 pub mod AreaLaws
+pub mod NormalArea
 pub mod DifferenceLaws
 pub mod BelowLaws
 pub mod ShiftLaws
+pub mod ShiftedWeights

@@ -1,4 +1,4 @@
--- CLAIMS: the weights of a shifted core: areas of the table over the integers, none empty, together probability one, falling outwards, mirrored.
+-- The weights of a shifted core by the areas below the limits. Laws.
 use Prim.Native.Nat.{ℕ, zero, suc, _+_, _-_, _*_, _≤_, _<_}
 use mathlib.Core.Path.{_≡_, refl, sym, ap, _∙_}
 use mathlib.Core.Bool.{Bool, true, false, cond}
@@ -7,16 +7,13 @@ use native.Mathlib.Nat.{sub-add-cancel}
 use lib.Dec.{leb, leb→le, lit≤}
 use lib.IntN.{ℤ, pos, negsuc, negℤ, natAbs, subℕ, _+ℤ_, _-ℤ_, negℤ-negℤ, negℤ-+ℤ, +ℤ-comm}
 use lib.Signed.{_≤ℤ_}
-use borrow.Author.Tests.{le-leb, lt-leb, leb-true}
+use borrow.Author.Tests.{leb-true}
 use Rattle.rules.specs.declared.weights.ZoneWeights.{ZoneWeights}
-use Rattle.rules.specs.Bounds.{zoneCount}
 use Rattle.rules.specs.Refusal.{badShift}
-use Rattle.rules.specs.Weights.{weightList}
 use Rattle.runlength.specs.Scale.{weightTotal}
-use Rattle.runlength.specs.Sum.{at, sum}
 use Rattle.shift.specs.declared.ShiftAnswer.the-variants.{Accepted, Refused}
 use Rattle.shift.specs.Area.{areaAt}
-use Rattle.shift.specs.AreaLaws.{normal-table}
+use Rattle.shift.specs.NormalArea.{normal-table}
 use Rattle.shift.specs.Shift.{maxShift, normalArea, areaBetween, bandWeight, weightsOf, shiftOf}
 use Rattle.shift.specs.Shifted.{SixAreas, SixPositive, Whole, nearShift, FallsOutwards, Shifted, mirrored, mirroredAnswer}
 use Rattle.shift.specs.Below.{belowOf}
@@ -118,7 +115,7 @@ module _ (t : ℕ) (h : t ≤ 2 * maxShift) where
         a2-some = omega (arith, r .to-a2);
       }
 
-  whole : Whole reckoned
+  pub whole : Whole reckoned
   whole =
       let r = limits-rise in
       record {
@@ -160,7 +157,7 @@ module _ (t : ℕ) (h : t ≤ 2 * maxShift) where
       at-least (negsuc m) a b zero e l = absurd (l .le)
       at-least (negsuc m) a b (suc n) e l = omega (arith, leb→le m n (l .le))
 
-  pub shifted-at : Shifted (subℕ t maxShift) (weightsOf (subℕ t maxShift))
+  shifted-at : Shifted (subℕ t maxShift) (weightsOf (subℕ t maxShift))
   shifted-at = rw weights-reckoned (record { areas = six-areas; positive = six-positive; whole = whole; falls = falls })
 
 -- ---- the operation
@@ -175,14 +172,6 @@ in-bounds (negsuc n) h =
       is-same (negsuc n) (subℕ t maxShift) t maxShift (omega arith) (is-sub t maxShift),
       is-same (subℕ maxShift (suc n)) (pos t) maxShift (suc n) (is-sub maxShift (suc n)) (omega arith),
     )
-
-pub shift-accepted : (s : ℤ) → natAbs s ≤ maxShift → shiftOf s ≡ Accepted (weightsOf s)
-unfolding shiftOf
-shift-accepted s h = rw (le-leb (natAbs s) maxShift h)
-
-pub shift-refused : (s : ℤ) → maxShift < natAbs s → shiftOf s ≡ Refused badShift
-unfolding shiftOf
-shift-refused s h = rw (lt-leb (natAbs s) maxShift h)
 
 -- Whatever the operation accepts has the weights of a shifted core.
 pub weights-shifted : (s : ℤ) (w : ZoneWeights) → shiftOf s ≡ Accepted w → Shifted s w
@@ -241,8 +230,3 @@ shift-mirrored s = rw (size s, weights-mirrored s) (go (leb (natAbs s) maxShift)
     go : (b : Bool) → cond b (Accepted (mirrored (weightsOf s))) (Refused badShift) ≡ mirroredAnswer (cond b (Accepted (weightsOf s)) (Refused badShift))
     go true = refl
     go false = refl
-
--- As a list from zone 0 on they sum to what the table's check asks for.
-pub weights-sum : (s : ℤ) (w : ZoneWeights) → shiftOf s ≡ Accepted w → sum zoneCount (at (weightList w)) ≡ weightTotal
-unfolding sum
-weights-sum s w e = let x = weights-shifted s w e .whole in omega (arith, x .c0-none, x .s-missing)

@@ -7,8 +7,8 @@ use lib.ListN.{length, getD}
 use Rattle.rules.specs.Bounds.{zoneCount, maxStates}
 use Rattle.runlength.specs.Sum.{sum, only}
 use Rattle.runlength.specs.Scale.{weightTotal}
-use Rattle.sources.specs.Marks.{Moves, Marked}
-use Rattle.sources.specs.Sources.{gathered, weighed, come, Inside, Light, Groups, Shape}
+use Rattle.sources.specs.Marks.{Moves, MarkedUpTo}
+use Rattle.sources.specs.Sources.{gathered, weighed, come, SourcesBelow, Light, Groups, Shape}
 
 -- one unit in each state: sums of it count
 abbrev pub one : ℕ → ℕ
@@ -27,7 +27,7 @@ unfoldable pub counted : List ℕ → ℕ → ℕ → ℕ → ℕ
 counted m n t z = sum z (λ y. arrived m one t y n)
 
 -- places before b stand as before
-pub record Kept (b : ℕ) (l l′ : List ℕ) : Type 0 where
+pub record KeptBelow (b : ℕ) (l l′ : List ℕ) : Type 0 where
   pub same : length l′ ≡ length l
   pub kept : (k : ℕ) → k < b → getD l′ k 0 ≡ getD l k 0
 
@@ -36,28 +36,28 @@ pub record CanTake (src : List ℕ) (e s entry t : ℕ) : Type 0 where
   pub state : s < maxStates
 
 pub record Taken (src : List ℕ) (e s entry t : ℕ) (src′ : List ℕ) (r : ℕ) : Type 0 where
-  pub kept : Kept e src src′
+  pub kept : KeptBelow e src src′
   pub order : e ≤ r
-  pub inside : (n : ℕ) → s < n → Inside src n → Inside src′ n
+  pub inside : (n : ℕ) → s < n → SourcesBelow src n → SourcesBelow src′ n
   pub sums : (u : ℕ → ℕ) → gathered src′ u r ≡ gathered src u e + only (eqb entry t) (u s)
 
 pub record CanCollect (m : List ℕ) (n z t : ℕ) (src : List ℕ) (b : ℕ) : Type 0 where
   pub moves : Moves m n
   pub zone : z < zoneCount
-  pub inside : Inside src n
+  pub inside : SourcesBelow src n
   pub room : b + arrived m one t z n ≤ length src
 
 -- the first s states are looked at, and the sources from b end at e
 pub record Collected (m : List ℕ) (n z t s : ℕ) (src : List ℕ) (b : ℕ) (src′ : List ℕ) (e : ℕ) : Type 0 where
-  pub kept : Kept b src src′
+  pub kept : KeptBelow b src src′
   pub order : b ≤ e
-  pub inside : Inside src′ n
+  pub inside : SourcesBelow src′ n
   pub sums : (u : ℕ → ℕ) → gathered src′ u e ≡ gathered src u b + arrived m u t z s
 
 -- room for one group more, in every list
 pub record CanZone (m : List ℕ) (n z a t : ℕ) (ms src fs ws : List ℕ) (g : ℕ) : Type 0 where
   pub target : t < n
-  pub marked : Marked m n (zoneCount * n) ms
+  pub marked : MarkedUpTo m n (zoneCount * n) ms
   pub moves : Moves m n
   pub zone : z < zoneCount
   pub light : a ≤ weightTotal
@@ -86,7 +86,7 @@ pub record ZoneGrouped (m : List ℕ) (n z a t : ℕ) (src fs ws : List ℕ) (g 
 -- room for a group by each zone
 pub record CanGroupState (m : List ℕ) (n : ℕ) (w : List ℕ) (t : ℕ) (ms src fs ws : List ℕ) (g : ℕ) : Type 0 where
   pub target : t < n
-  pub marked : Marked m n (zoneCount * n) ms
+  pub marked : MarkedUpTo m n (zoneCount * n) ms
   pub moves : Moves m n
   pub zones : zoneCount ≤ length w
   pub light : (z : ℕ) → z < zoneCount → getD w z 0 ≤ weightTotal
@@ -115,7 +115,7 @@ pub record CanList (m : List ℕ) (n : ℕ) (w src fs ws gs : List ℕ) : Type 0
   pub shares : zoneCount * n ≤ length ws
   pub room : n < length gs
   pub size : length src ≤ zoneCount * maxStates
-  pub inside : Inside src n
+  pub inside : SourcesBelow src n
   pub light-shares : Light ws
   pub first : getD fs 0 0 ≡ 0
   pub start : getD gs 0 0 ≡ 0

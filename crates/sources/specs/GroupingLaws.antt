@@ -10,9 +10,9 @@ use Rattle.rules.specs.Bounds.{zoneCount, maxStates}
 use Rattle.runlength.specs.Sum.{sum}
 use Rattle.runlength.specs.SumLaws.{sum-zero, sum-more, sum-cong, sum-upto}
 use Rattle.runlength.specs.Scale.{weightTotal}
-use Rattle.sources.specs.MoreLaws.{set-below, ordered-set}
+use Rattle.runlength.specs.SetLaws.{set-below, ordered-set}
 use Rattle.sources.specs.Sources.{gathered, weighed, Groups}
-use Rattle.sources.specs.Grouping.{one, arrived, into, counted, Kept, CanCollect, Collected, CanZone, Grown, ZoneGrouped, CanGroupState, GroupingState}
+use Rattle.sources.specs.Grouping.{one, arrived, into, counted, KeptBelow, CanCollect, Collected, CanZone, Grown, ZoneGrouped, CanGroupState, GroupingState}
 use Rattle.sources.specs.SourcesLaws.{gathered-kept, ones, kept-set, arrived-most}
 use Rattle.sources.specs.MarksLaws.{unmarked}
 
@@ -22,8 +22,8 @@ unfolding weighed
 weighed-more src fs ws u g = sum-more g _
 
 -- groups before g alone count: their shares, their firsts to g, and the sources before the g-th first
-weighed-kept : {src fs ws src′ fs′ ws′ : List ℕ} {n g : ℕ} → Groups src fs ws n g → Kept (getD fs g 0) src src′ → Kept (g + 1) fs fs′
-    → Kept g ws ws′
+weighed-kept : {src fs ws src′ fs′ ws′ : List ℕ} {n g : ℕ} → Groups src fs ws n g → KeptBelow (getD fs g 0) src src′ → KeptBelow (g + 1) fs fs′
+    → KeptBelow g ws ws′
     → (k : ℕ) → k ≤ g → (u : ℕ → ℕ) → weighed src′ fs′ ws′ u k ≡ weighed src fs ws u k
 unfolding weighed
 weighed-kept {src} {fs} {ws} {src′} {fs′} {ws′} {n} {g} p a b c k l u =

@@ -1,5 +1,4 @@
 -- The definitions and laws of the sources.
-pub mod MoreLaws
 pub mod Sources
 pub mod Marks
 pub mod MarksLaws
@@ -9,6 +8,6 @@ pub mod GroupingLaws
 pub mod ListLaws
 pub mod Stops
 pub mod StopsLaws
-pub mod Alike
-pub mod AlikeLaws
+pub mod AlikeZones
+pub mod AlikeZonesLaws
 pub mod ListSourcesLaws

@@ -13,8 +13,8 @@ use borrow.Author.Count.{below-more}
 use Rattle.rules.specs.Bounds.{zoneCount, maxStates}
 use Rattle.runlength.specs.Sum.{sum, only}
 use Rattle.runlength.specs.SumLaws.{sum-more, sum-le, sum-upto, sum-const, sum-none, sum-swap, sum-pick}
-use Rattle.sources.specs.MoreLaws.{ordered-set}
-use Rattle.sources.specs.Marks.{CanMark, Marked}
+use Rattle.runlength.specs.SetLaws.{ordered-set}
+use Rattle.sources.specs.Marks.{CanMark, MarkedUpTo}
 use Rattle.sources.specs.Sources.{come, Groups}
 use Rattle.sources.specs.Grouping.{one, arrived, into, counted, CanGroupState, GroupingState, CanList, Listing}
 
@@ -74,7 +74,7 @@ module _ {m : List ℕ} {n : ℕ} {w src₀ fs₀ ws₀ gs₀ : List ℕ} (p : C
 
   module _ {t g : ℕ} {src fs ws gs : List ℕ} (l : t < n) (same-src : length src ≡ length src₀) (same-fs : length fs ≡ length fs₀) (same-ws : length ws ≡ length ws₀)
       (same-gs : length gs ≡ length gs₀) (e : g ≡ getD gs t 0) (c : Listing m n w src fs ws gs t) where
-    pub list-can : {x : ℕ} {ms : List ℕ} → x ≡ t → Marked m n (zoneCount * n) ms → CanGroupState m n w x ms src fs ws g
+    pub list-can : {x : ℕ} {ms : List ℕ} → x ≡ t → MarkedUpTo m n (zoneCount * n) ms → CanGroupState m n w x ms src fs ws g
     list-can {x} y k = record {
       target = omega arith;
       marked = k;

@@ -14,11 +14,11 @@ use Rattle.runlength.specs.SumLaws.{sum-cong, sum-term, sum-mul, sum-swap}
 use Rattle.runlength.specs.Automaton.{quiet, signal, after}
 use Rattle.runlength.specs.Chain.{inflow}
 use Rattle.runlength.specs.Listed.{entryMove, listedChain}
-use Rattle.sources.specs.MoreLaws.{getD-zeros}
-use Rattle.sources.specs.Sources.{CanListSources, Listed}
+use Rattle.runlength.specs.SetLaws.{getD-zeros}
+use Rattle.sources.specs.Sources.{CanListSources, SourcesListed}
 use Rattle.sources.specs.Grouping.{arrived, into, CanList, Listing}
 use Rattle.sources.specs.Stops.{CanListStops, Stops}
-use Rattle.sources.specs.Alike.{CanJoin, Joined}
+use Rattle.sources.specs.AlikeZones.{CanJoin, Joined}
 
 -- a move's part for a state
 to-state : (n x t v a : ℕ) → t < n → a * only (eqb x t) v ≡ after (entryMove n x) 0 (λ r. only (eqb r t) (v * a))
@@ -77,7 +77,7 @@ module _ {m : List ℕ} {n : ℕ} {w src fs ws gs st : List ℕ} (p : CanListSou
   stops-of g = record { most = p .most; groups = g .shape .room; room = omega (arith, long (maxStates + 1) (p .stops), p .most) }
 
   pub listed-of : {j src′ fs′ ws′ gs′ st′ : List ℕ} → Joined m n w j → Listing m n j src′ fs′ ws′ gs′ n → Stops gs′ n 0 st′
-      → Listed m n w src′ fs′ ws′ gs′ st′
+      → SourcesListed m n w src′ fs′ ws′ gs′ st′
   listed-of q g s = record {
     shape = g .shape;
     stops = s;

@@ -24,6 +24,6 @@ pub record CanMark (m : List ℕ) (n : ℕ) (ms : List ℕ) : Type 0 where
   pub room : zoneCount * n ≤ length ms
 
 -- the first k moves have their marks
-pub record Marked (m : List ℕ) (n k : ℕ) (ms : List ℕ) : Type 0 where
+pub record MarkedUpTo (m : List ℕ) (n k : ℕ) (ms : List ℕ) : Type 0 where
   pub room : zoneCount * n ≤ length ms
   pub seen : (j : ℕ) → j < k → getD m j 0 < n → getD ms (zoneCount * getD m j 0 + j % zoneCount) 0 ≡ 1

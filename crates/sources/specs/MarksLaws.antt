@@ -11,7 +11,7 @@ use borrow.Author.Tests.{ne-eqb}
 use Rattle.rules.specs.Bounds.{zoneCount}
 use Rattle.runlength.specs.Sum.{only}
 use Rattle.runlength.specs.SumLaws.{sum-none}
-use Rattle.sources.specs.Marks.{CanSet, Set, CanMark, Marked}
+use Rattle.sources.specs.Marks.{CanSet, Set, CanMark, MarkedUpTo}
 use Rattle.sources.specs.Grouping.{arrived}
 
 pub set-done : {ms : List ℕ} {t z n : ℕ} → CanSet ms z n → t < n → Set ms t z n (set ms (zoneCount * t + z) 1)
@@ -26,14 +26,14 @@ set-done {ms} {t} {z} p l =
       here = λ i. getD-set-same ms (zoneCount * t + z) 1 0 h;
     }
 
-pub mark-start : {m : List ℕ} {n : ℕ} {ms : List ℕ} → CanMark m n ms → Marked m n 0 ms
+pub mark-start : {m : List ℕ} {n : ℕ} {ms : List ℕ} → CanMark m n ms → MarkedUpTo m n 0 ms
 mark-start p = record { room = p .room; seen = λ j h. absurd (omega arith) }
 
-pub mark-can : {m : List ℕ} {n k z : ℕ} {ms : List ℕ} → z ≡ k % zoneCount → Marked m n k ms → CanSet ms z n
+pub mark-can : {m : List ℕ} {n k z : ℕ} {ms : List ℕ} → z ≡ k % zoneCount → MarkedUpTo m n k ms → CanSet ms z n
 mark-can e c = record { zone = omega arith; room = c .room }
 
-pub mark-more : {m : List ℕ} {n k t z : ℕ} {ms ms′ : List ℕ} → t ≡ getD m k 0 → z ≡ k % zoneCount → Marked m n k ms → Set ms t z n ms′
-    → Marked m n (k + 1) ms′
+pub mark-more : {m : List ℕ} {n k t z : ℕ} {ms ms′ : List ℕ} → t ≡ getD m k 0 → z ≡ k % zoneCount → MarkedUpTo m n k ms → Set ms t z n ms′
+    → MarkedUpTo m n (k + 1) ms′
 mark-more {m} {n} {k} {t} {z} {ms} {ms′} e f c q = record {
   room = omega (arith, c .room, q .same);
   seen = λ j h l. elim (decLt j k) [
@@ -42,11 +42,11 @@ mark-more {m} {n} {k} {t} {z} {ms} {ms′} e f c q = record {
   ];
 }
 
-pub mark-done : {m : List ℕ} {n k : ℕ} {ms : List ℕ} → zoneCount * n ≤ k → Marked m n k ms → Marked m n (zoneCount * n) ms
+pub mark-done : {m : List ℕ} {n k : ℕ} {ms : List ℕ} → zoneCount * n ≤ k → MarkedUpTo m n k ms → MarkedUpTo m n (zoneCount * n) ms
 mark-done h c = record { room = c .room; seen = λ j l. c .seen j (omega arith) }
 
 -- with no mark nothing arrives
-pub unmarked : {m : List ℕ} {n : ℕ} {ms : List ℕ} {t z : ℕ} → Marked m n (zoneCount * n) ms → t < n → z < zoneCount
+pub unmarked : {m : List ℕ} {n : ℕ} {ms : List ℕ} {t z : ℕ} → MarkedUpTo m n (zoneCount * n) ms → t < n → z < zoneCount
     → getD ms (zoneCount * t + z) 0 ≡ 0
     → (u : ℕ → ℕ) → arrived m u t z n ≡ 0
 unfolding arrived

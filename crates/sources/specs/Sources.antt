@@ -24,7 +24,7 @@ unfoldable pub come : List ℕ → List ℕ → List ℕ → List ℕ → (ℕ �
 come src fs ws gs u t = weighed src fs ws u (getD gs (t + 1) 0) - weighed src fs ws u (getD gs t 0)
 
 -- every source is one of the n states
-pub record Inside (src : List ℕ) (n : ℕ) : Type 0 where
+pub record SourcesBelow (src : List ℕ) (n : ℕ) : Type 0 where
   pub inside : (k : ℕ) → getD src k 0 < n
 
 -- no share is over all weights
@@ -33,7 +33,7 @@ pub record Light (ws : List ℕ) : Type 0 where
 
 -- c groups, none of which gathers more than there is
 pub record Groups (src fs ws : List ℕ) (n c : ℕ) : Type 0 where
-  pub inside : Inside src n
+  pub inside : SourcesBelow src n
   pub light : Light ws
   pub ordered : (i j : ℕ) → i ≤ j → j ≤ c → getD fs i 0 ≤ getD fs j 0
   pub within : getD fs c 0 ≤ length src
@@ -63,7 +63,7 @@ pub record CanListSources (m : List ℕ) (n : ℕ) (w src fs ws gs st : List ℕ
   pub stops : st ≡ replicate (maxStates + 1) 0
 
 -- the lists as they are left: what the groups of a state send is what the moves lead to it
-pub record Listed (m : List ℕ) (n : ℕ) (w src fs ws gs st : List ℕ) : Type 0 where
+pub record SourcesListed (m : List ℕ) (n : ℕ) (w src fs ws gs st : List ℕ) : Type 0 where
   pub shape : Shape src fs ws gs n n
   pub stops : Stops gs n 0 st
   pub sums : (t : ℕ) → t < n → (u : ℕ → ℕ) → come src fs ws gs u t ≡ inflow (listedChain zoneCount n m (at w)) u t

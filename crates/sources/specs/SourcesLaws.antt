@@ -12,9 +12,9 @@ use borrow.Author.Tests.{eq-eqb, ne-eqb}
 use Rattle.rules.specs.Bounds.{zoneCount}
 use Rattle.runlength.specs.Sum.{sum, only}
 use Rattle.runlength.specs.SumLaws.{sum-zero, sum-more, sum-cong, sum-le, sum-upto, sum-const}
-use Rattle.sources.specs.MoreLaws.{only-le, set-below}
+use Rattle.runlength.specs.SetLaws.{only-le, set-below}
 use Rattle.sources.specs.Sources.{gathered}
-use Rattle.sources.specs.Grouping.{one, arrived, Kept, CanTake, Taken, CanCollect, Collected}
+use Rattle.sources.specs.Grouping.{one, arrived, KeptBelow, CanTake, Taken, CanCollect, Collected}
 
 pub gathered-more : (src : List ℕ) (u : ℕ → ℕ) (e : ℕ) → gathered src u (e + 1) ≡ gathered src u e + u (getD src e 0)
 unfolding gathered
@@ -25,7 +25,7 @@ unfolding gathered
 gathered-upto src u b e h = sum-upto b e (λ j. u (getD src j 0)) h
 
 -- sources before b alone count
-pub gathered-kept : {b : ℕ} {src src′ : List ℕ} → Kept b src src′ → (u : ℕ → ℕ) (e : ℕ) → e ≤ b → gathered src′ u e ≡ gathered src u e
+pub gathered-kept : {b : ℕ} {src src′ : List ℕ} → KeptBelow b src src′ → (u : ℕ → ℕ) (e : ℕ) → e ≤ b → gathered src′ u e ≡ gathered src u e
 unfolding gathered
 gathered-kept {b} {src} {src′} h u e l =
     sum-cong e (λ j. u (getD src′ j 0)) (λ j. u (getD src j 0)) (λ k i. ap u (h .kept k (omega arith)))
@@ -35,13 +35,13 @@ pub ones : (src : List ℕ) (e : ℕ) → gathered src one e ≡ e
 unfolding gathered
 ones src e = sum-const e 1 ∙ mul-one e
 
-pub kept-none : (b : ℕ) (l : List ℕ) → Kept b l l
+pub kept-none : (b : ℕ) (l : List ℕ) → KeptBelow b l l
 kept-none b l = record { same = refl; kept = λ k h. refl }
 
-pub kept-set : (b : ℕ) (l : List ℕ) (i v : ℕ) → b ≤ i → Kept b l (set l i v)
+pub kept-set : (b : ℕ) (l : List ℕ) (i v : ℕ) → b ≤ i → KeptBelow b l (set l i v)
 kept-set b l i v h = record { same = length-set l i v; kept = λ k x. getD-set-other l i k v 0 (omega arith) }
 
-kept-then : {b c : ℕ} {l l′ l″ : List ℕ} → b ≤ c → Kept b l l′ → Kept c l′ l″ → Kept b l l″
+kept-then : {b c : ℕ} {l l′ l″ : List ℕ} → b ≤ c → KeptBelow b l l′ → KeptBelow c l′ l″ → KeptBelow b l l″
 kept-then h p q = record { same = q .same ∙ p .same; kept = λ k x. q .kept k (omega arith) ∙ p .kept k x }
 
 module _ {src : List ℕ} {e s entry t : ℕ} (p : CanTake src e s entry t) where

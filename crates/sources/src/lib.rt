@@ -7,7 +7,7 @@ mod zones;
 ghost use Prim.Native.Nat.{_*_, _≤_};
 ghost use mathlib.Core.Path.{_≡_};
 ghost use Rattle.rules.specs.Bounds.{zoneCount, maxStates};
-ghost use Rattle.sources.specs.Sources.{CanListSources, Listed};
+ghost use Rattle.sources.specs.Sources.{CanListSources, SourcesListed};
 use groups::list_groups;
 use rules::ZONES;
 use stops::list_stops;
@@ -43,7 +43,7 @@ pub fn list_sources(
     stops: &mut [u16],
 )
     requires { ⌜ CanListSources (now moves) n (now weights) (now sources) (now firsts) (now shares) (now groups) (now stops) ⌝ }
-    ensures { λ r. ⌜ Listed (now (moves .entry)) n (now (weights .entry)) (now (sources .exit)) (now (firsts .exit)) (now (shares .exit)) (now (groups .exit)) (now (stops .exit)) ⌝ }
+    ensures { λ r. ⌜ SourcesListed (now (moves .entry)) n (now (weights .entry)) (now (sources .exit)) (now (firsts .exit)) (now (shares .exit)) (now (groups .exit)) (now (stops .exit)) ⌝ }
 {
     let mut joined = [0u32; ZONES];
     join(moves, n, weights, &mut joined);

@@ -1,7 +1,7 @@
 // Marks of the targets and zones that some move has: most states are led to by one zone, and the others need not be looked through.
 ghost use Prim.Native.Nat.{_*_};
 ghost use Rattle.rules.specs.Bounds.{zoneCount};
-ghost use Rattle.sources.specs.Marks.{CanSet, Set, CanMark, Marked};
+ghost use Rattle.sources.specs.Marks.{CanSet, Set, CanMark, MarkedUpTo};
 use crate::index;
 use rules::ZONES;
 
@@ -18,7 +18,7 @@ fn set_mark(marks: &mut [u16], t: usize, z: usize, n: usize)
 // A mark for each target and zone that some move has: with no mark the zone leads there from no state.
 pub(crate) fn mark(moves: &[u16], n: usize, marks: &mut [u16])
     requires { ⌜ CanMark (now moves) n (now marks) ⌝ }
-    ensures { λ r. ⌜ Marked (now (moves .entry)) n (zoneCount * n) (now (marks .exit)) ⌝ }
+    ensures { λ r. ⌜ MarkedUpTo (now (moves .entry)) n (zoneCount * n) (now (marks .exit)) ⌝ }
 {
     let mut k: usize = 0;
     while k < ZONES * n {

@@ -1,5 +1,5 @@
 // Zones that lead every state to the same place count as one: the first of them has their weights.
-ghost use Rattle.sources.specs.Alike.{CanCompare, Alike, AlikeIf, CanFind, CanJoin, Joined};
+ghost use Rattle.sources.specs.AlikeZones.{CanCompare, AlikeZones, AlikeIf, CanFind, CanJoin, Joined};
 use rules::ZONES;
 
 // Whether the zones a and b lead each state to the same place.
@@ -20,7 +20,7 @@ fn alike(moves: &[u16], n: usize, a: usize, b: usize) -> bool
 // The first zone that is alike to z.
 fn first_alike(moves: &[u16], n: usize, z: usize) -> usize
     requires { ⌜ CanFind (now moves) n z ⌝ }
-    ensures { λ r. ⌜ Alike (now (moves .entry)) n r z ⌝ }
+    ensures { λ r. ⌜ AlikeZones (now (moves .entry)) n r z ⌝ }
 {
     let mut a: usize = 0;
     while a < z {

@@ -11,14 +11,15 @@ use lib.ListN.{length, getD, take, set, length-append, length-set}
 use lib.Seq.{getD-take, length-take-le, take-suc-set}
 use Rattle.rules.specs.Bounds.{maxStates}
 use Rattle.runlength.specs.Automaton.{Automaton, quiet, signal}
-use Rattle.states.specs.States.{Met, placeOf, withState, Worklist, worklist, enter, busy, due, next, turns, explored, states, moves}
-use Rattle.states.specs.PlaceLaws.{index-state, place-le}
+use Rattle.runlength.specs.Index.{indexOf}
+use Rattle.states.specs.States.{Met, withState, Worklist, worklist, enter, busy, due, next, turns, explored, states, moves}
+use Rattle.runlength.specs.IndexLaws.{index-state, index-le}
 use Rattle.states.specs.WorklistLaws.{turns-sound, full-idle, over-idle, idle-explored}
 use Rattle.states.specs.Explore.{Visited, Explored}
 
--- the place of a state among the first n is at most n
-pub place-small : {j : ℕ} (t n : ℕ) (f : List ℕ) → n ≤ length f → j ≡ placeOf t (take n f) → j ≤ n
-place-small t n f h q = omega (arith, place-le t (take n f), length-take-le n f h)
+-- the index of a state among the first n is at most n
+pub index-small : {j : ℕ} (t n : ℕ) (f : List ℕ) → n ≤ length f → j ≡ indexOf t (take n f) → j ≤ n
+index-small t n f h q = omega (arith, index-le t (take n f), length-take-le n f h)
 
 -- ---- one turn
 
@@ -57,7 +58,7 @@ module _ (a : Automaton ℕ) (f m : List ℕ) (n k : ℕ) (few : n ≤ maxStates
       rw (turn, e, one-more maxStates) in
       record { count = sym n-long ∙ ap (λ (w : Worklist). length (w .found)) (sym whole); most = omega arith; least = omega arith; kept = λ _. whole }
 
-  module _ (t : ℕ) (e : a .move (getD f (k / a .zones) 0) (k % a .zones) ≡ quiet t) (j : ℕ) (q : j ≡ placeOf t (take n f)) where
+  module _ (t : ℕ) (e : a .move (getD f (k / a .zones) 0) (k % a .zones) ≡ quiet t) (j : ℕ) (q : j ≡ indexOf t (take n f)) where
     pub turn-known : j < n → Visited a f m f (set m k j) n k n
     unfolding enter withState
     turn-known l =

@@ -1,6 +1,5 @@
 pub mod States
-pub mod Places
-pub mod PlaceLaws
+pub mod StateList
 pub mod WorklistLaws
 pub mod StatesLaws
 pub mod CountLaws

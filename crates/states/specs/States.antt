@@ -3,26 +3,22 @@ use Prim.Native.Nat.{ℕ, zero, suc, _*_, _/_, _%_, _<_}
 use mathlib.Core.Path.{_≡_}
 use mathlib.Core.Bool.{Bool, cond, _&&_}
 use mathlib.Core.List.{List, [], _∷_, _++_}
-use lib.Dec.{ltb, leb, eqb}
+use lib.Dec.{ltb, leb}
 use lib.ListN.{length, getD}
 use Rattle.rules.specs.Bounds.{maxStates}
 use Rattle.runlength.specs.Automaton.{Automaton, Move, quiet, signal}
+use Rattle.runlength.specs.Index.{indexOf}
 
 -- a state that some zones lead to with no signal
 pub data Met {A : Type 0} (a : Automaton A) : A → Type 0 where
   start : Met a (a .start)
   more : {s t : A} (z : ℕ) → Met a s → z < a .zones → a .move s z ≡ quiet t → Met a t
 
--- the place of the first t in a list, or the list's length where there is none
-unfoldable pub placeOf : ℕ → List ℕ → ℕ
-placeOf t [] = 0
-placeOf t (x ∷ xs) = cond (eqb x t) 0 (suc (placeOf t xs))
-
 -- t at the end, unless it is there already
 unfoldable pub withState : ℕ → List ℕ → List ℕ
-withState t xs = cond (ltb (placeOf t xs) (length xs)) xs (xs ++ t ∷ [])
+withState t xs = cond (ltb (indexOf t xs) (length xs)) xs (xs ++ t ∷ [])
 
--- The states found so far, and an entry for each move looked at so far: the place of the next state, or `maxStates` for a signal.
+-- The states found so far, and an entry for each move looked at so far: the index of the next state, or `maxStates` for a signal.
 -- The entry of state i by zone z stands at zones * i + z.
 pub record Worklist : Type 0 where
   pub found : List ℕ
@@ -34,7 +30,7 @@ worklist f m = record { found = f; entries = m }
 -- one move more is looked at
 unfoldable pub enter : Worklist → Move ℕ → Worklist
 enter w signal = worklist (w .found) (w .entries ++ maxStates ∷ [])
-enter w (quiet t) = worklist (withState t (w .found)) (w .entries ++ placeOf t (w .found) ∷ [])
+enter w (quiet t) = worklist (withState t (w .found)) (w .entries ++ indexOf t (w .found) ∷ [])
 
 module _ (a : Automaton ℕ) where
   -- a move is left to look at, and there are not too many states

@@ -10,8 +10,9 @@ use Rattle.runlength.specs.Listed.{entryMove, listedAutomaton}
 use Rattle.runlength.specs.Future.{Alike, EqualFuture, Simulation}
 use Rattle.runlength.specs.FutureLaws.{simulation-future}
 use Rattle.states.specs.States.{Met, start, more, explored, states, moves}
-use Rattle.states.specs.Places.{Distinct, At, Entry, AllMet, HasAllMet, Right}
-use Rattle.states.specs.PlaceLaws.{flat-state, flat-zone, flat-below}
+use Rattle.runlength.specs.Index.{Distinct, At}
+use Rattle.states.specs.StateList.{Entry, AllMet, HasAllMet, Right}
+use Rattle.runlength.specs.IndexLaws.{flat-state, flat-zone, flat-below}
 use Rattle.states.specs.WorklistLaws.{Sound, turns-sound, explored-full}
 
 module _ (a : Automaton ℕ) where
@@ -59,16 +60,16 @@ module _ (a : Automaton ℕ) where
         let l : a .zones * i + z < length (moves a) = rw moves-length (flat-below (a .zones) i z (length (states a)) h (p .below)) in
         rw (flat-state (a .zones) i z h, flat-zone (a .zones) i z h, p .is) at (moves-right .right (a .zones * i + z) l)
 
-    state-place : (s : ℕ) → Met a s → (i : ℕ) × At (states a) i s
-    state-place s start = (0, record { below = states-some; is = states-first })
-    state-place s (more {s = r} z p h e) =
-        let o = state-place r p in
+    state-index : (s : ℕ) → Met a s → (i : ℕ) × At (states a) i s
+    state-index s start = (0, record { below = states-some; is = states-first })
+    state-index s (more {s = r} z p h e) =
+        let o = state-index r p in
         let x = getD (moves a) (a .zones * o .0 + z) 0 in
         (x, subst (Entry (states a) x) e (move-entry (o .0) r z (o .1) h))
 
     -- every state that is met is among them
     pub states-all : HasAllMet a (states a)
-    states-all = record { place = state-place }
+    states-all = record { index = state-index }
 
     -- ---- the chain of the moves
 
@@ -80,7 +81,7 @@ module _ (a : Automaton ℕ) where
     entry-alike x signal p = rw (le-ltb x (length (states a)) (omega arith)) tt
     entry-alike x (quiet t) p = rw (lt-ltb x (length (states a)) (p .below)) p
 
-    -- a place moves as the state that stands there
+    -- a index moves as the state that stands there
     pub explored-simulation : Simulation (listedAutomaton (a .zones) (length (states a)) (moves a)) a (At (states a))
     explored-simulation = record {
       same-zones = refl;

@@ -8,7 +8,7 @@ use Rattle.rules.specs.Bounds.{zoneCount, maxStates}
 use Rattle.rules.specs.Check.{activeRules}
 use Rattle.window.specs.declared.Move.the-variants.{Quiet, Signal}
 use Rattle.window.specs.State.{moveOf}
-use Rattle.states.specs.States.{placeOf}
+use Rattle.runlength.specs.Index.{indexOf}
 use Rattle.states.specs.Automata.{automatonMove, stateAutomaton}
 use Rattle.states.specs.AutomataLaws.{met-given}
 use Rattle.states.specs.Explore.{Explorable, Visitable, Visited}
@@ -20,7 +20,7 @@ module _ {list : RuleList} {f m : List ℕ} {n k : ℕ} (v : Visitable list f m 
   visit-signal mask e =
       turn-signal (stateAutomaton (activeRules list)) f m n k (v .few) (v .below) (v .can .found-room) (v .can .entries-room) (ap automatonMove e)
 
-  module _ {t j : ℕ} (e : moveOf (activeRules list) (getD f (k / zoneCount) 0) (k % zoneCount) ≡ Quiet t) (q : j ≡ placeOf t (take n f)) where
+  module _ {t j : ℕ} (e : moveOf (activeRules list) (getD f (k / zoneCount) 0) (k % zoneCount) ≡ Quiet t) (q : j ≡ indexOf t (take n f)) where
     pub visit-known : j < n → Visited (stateAutomaton (activeRules list)) f m f (set m k j) n k n
     visit-known =
         turn-known (stateAutomaton (activeRules list)) f m n k (v .few) (v .below) (v .can .found-room) (v .can .entries-room) t (ap automatonMove e) j q

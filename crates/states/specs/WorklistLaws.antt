@@ -14,9 +14,11 @@ use lib.ListN.{length, getD, List·getD-append}
 use lib.Seq.{getD-append-seam}
 use Rattle.rules.specs.Bounds.{maxStates}
 use Rattle.runlength.specs.Automaton.{Automaton, Move, quiet, signal}
-use Rattle.states.specs.States.{Met, start, more, placeOf, withState, Worklist, worklist, enter, busy, due, next, turns, explored}
-use Rattle.states.specs.Places.{Distinct, Entry, AllMet, Right}
-use Rattle.states.specs.PlaceLaws.{index-state, index-zone, place-le, place-at, place-none, Grows, grows-none, grows-one, at-grows, snoc-length, snoc-each, snoc-distinct}
+use Rattle.runlength.specs.Index.{indexOf}
+use Rattle.states.specs.States.{Met, start, more, withState, Worklist, worklist, enter, busy, due, next, turns, explored}
+use Rattle.runlength.specs.Index.{Distinct}
+use Rattle.states.specs.StateList.{Entry, AllMet, Right}
+use Rattle.runlength.specs.IndexLaws.{index-state, index-zone, index-le, index-at, index-none, Grows, grows-none, grows-one, at-grows, snoc-length, snoc-each, snoc-distinct}
 
 entry-grows : {f f′ : List ℕ} → Grows f f′ → (x : ℕ) (m : Move ℕ) → Entry f x m → Entry f′ x m
 entry-grows g x signal p = p
@@ -69,7 +71,7 @@ module _ (a : Automaton ℕ) where
         short = omega (arith, snoc-length (w .entries) maxStates, h .0);
         right = right-more (w .found) (w .found) (w .entries) maxStates (grows-none _) (h .0) (g .right) (subst (Entry (w .found) maxStates) (sym e) refl);
       }
-  enter-sound w b g (quiet t) e = go (ltb (placeOf t (w .found)) (length (w .found))) refl
+  enter-sound w b g (quiet t) e = go (ltb (indexOf t (w .found)) (length (w .found))) refl
     where
       h : (length (w .entries) < a .zones * length (w .found)) × (length (w .found) ≤ maxStates)
       h = busy-below w b
@@ -79,29 +81,29 @@ module _ (a : Automaton ℕ) where
           more (length (w .entries) % a .zones) (g .all-met .met (length (w .entries) / a .zones) (index-state (a .zones) (length (w .found)) (length (w .entries)) (h .0)))
           (index-zone (a .zones) (length (w .found)) (length (w .entries)) (h .0)) e
 
-      go : (b : Bool) → ltb (placeOf t (w .found)) (length (w .found)) ≡ b
-          → Sound (worklist (cond b (w .found) (w .found ++ t ∷ [])) (w .entries ++ placeOf t (w .found) ∷ []))
+      go : (b : Bool) → ltb (indexOf t (w .found)) (length (w .found)) ≡ b
+          → Sound (worklist (cond b (w .found) (w .found ++ t ∷ [])) (w .entries ++ indexOf t (w .found) ∷ []))
       go true q = record {
         some = g .some;
         first = g .first;
         distinct = g .distinct;
         all-met = g .all-met;
         most = g .most;
-        short = omega (arith, snoc-length (w .entries) (placeOf t (w .found)), h .0);
-        right = right-more (w .found) (w .found) (w .entries) (placeOf t (w .found)) (grows-none _) (h .0) (g .right)
-            (subst (Entry (w .found) (placeOf t (w .found))) (sym e) (record { below = ltb-true _ _ q; is = place-at t (w .found) (ltb-true _ _ q) }));
+        short = omega (arith, snoc-length (w .entries) (indexOf t (w .found)), h .0);
+        right = right-more (w .found) (w .found) (w .entries) (indexOf t (w .found)) (grows-none _) (h .0) (g .right)
+            (subst (Entry (w .found) (indexOf t (w .found))) (sym e) (record { below = ltb-true _ _ q; is = index-at t (w .found) (ltb-true _ _ q) }));
       }
       go false q =
-          let i : placeOf t (w .found) ≡ length (w .found) = omega (arith, place-le t (w .found), ltb-false (placeOf t (w .found)) (length (w .found)) q) in
+          let i : indexOf t (w .found) ≡ length (w .found) = omega (arith, index-le t (w .found), ltb-false (indexOf t (w .found)) (length (w .found)) q) in
           record {
             some = omega (arith, snoc-length (w .found) t);
             first = List·getD-append (w .found) (t ∷ []) 0 0 (g .some) ∙ g .first;
-            distinct = snoc-distinct (w .found) t (g .distinct) (place-none t (w .found) (ltb-false _ _ q));
+            distinct = snoc-distinct (w .found) t (g .distinct) (index-none t (w .found) (ltb-false _ _ q));
             all-met = record { met = snoc-each (Met a) (w .found) t (g .all-met .met) here };
             most = omega (arith, snoc-length (w .found) t, h .1);
-            short = rw (snoc-length (w .entries) (placeOf t (w .found)), snoc-length (w .found) t) (omega (arith, h .0));
-            right = right-more (w .found) (w .found ++ t ∷ []) (w .entries) (placeOf t (w .found)) (grows-one _ _) (h .0) (g .right)
-                (subst (Entry (w .found ++ t ∷ []) (placeOf t (w .found))) (sym e)
+            short = rw (snoc-length (w .entries) (indexOf t (w .found)), snoc-length (w .found) t) (omega (arith, h .0));
+            right = right-more (w .found) (w .found ++ t ∷ []) (w .entries) (indexOf t (w .found)) (grows-one _ _) (h .0) (g .right)
+                (subst (Entry (w .found ++ t ∷ []) (indexOf t (w .found))) (sym e)
                 (record { below = omega (arith, snoc-length (w .found) t); is = rw i (getD-append-seam (w .found) t [] 0) }));
           }
 
@@ -155,7 +157,7 @@ module _ (a : Automaton ℕ) where
   enter-length : (w : Worklist) (m : Move ℕ) → length (enter w m .entries) ≡ suc (length (w .entries))
   unfolding enter
   enter-length w signal = snoc-length (w .entries) maxStates ∙ add-one _
-  enter-length w (quiet t) = snoc-length (w .entries) (placeOf t (w .found)) ∙ add-one _
+  enter-length w (quiet t) = snoc-length (w .entries) (indexOf t (w .found)) ∙ add-one _
 
   turns-length : (k : ℕ) → (busy a (turns a k) ≡ false) ⊎ (length (turns a k .entries) ≡ k)
   unfolding turns next

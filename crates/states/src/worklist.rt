@@ -6,14 +6,14 @@ ghost use mathlib.Core.Path.{_≡_};
 ghost use Prim.Native.Nat.{_≤_};
 ghost use lib.ListN.{length, take};
 ghost use Rattle.rules.specs.Check.{activeRules};
-ghost use Rattle.states.specs.States.{placeOf};
+ghost use Rattle.runlength.specs.Index.{indexOf};
 ghost use Rattle.states.specs.Automata.{stateAutomaton};
 ghost use Rattle.states.specs.Explore.{Explorable, Explored, Visitable, Visited};
 
-// The place of a state among the first n, or n.
-fn place_of(found: &[u64], n: usize, state: u64) -> usize
+// The index of a state among the first n, or n.
+fn index_of(found: &[u64], n: usize, state: u64) -> usize
     requires { ⌜ n ≤ length (now found) ⌝ }
-    ensures { λ r. ⌜ r ≡ placeOf state (take n (now (found .entry))) ⌝ }
+    ensures { λ r. ⌜ r ≡ indexOf state (take n (now (found .entry))) ⌝ }
 {
     let mut i = 0;
     while i < n {
@@ -38,9 +38,9 @@ fn visit(list: RuleList, found: &mut [u64], moves: &mut [u16], n: usize, k: usiz
             n
         }
         Move::Quiet(next) => {
-            let place = place_of(found, n, next);
-            moves[k] = place as u16;
-            if place < n {
+            let index = index_of(found, n, next);
+            moves[k] = index as u16;
+            if index < n {
                 n
             } else if n < RuleList::MAX_STATES {
                 found[n] = next;
@@ -53,7 +53,7 @@ fn visit(list: RuleList, found: &mut [u64], moves: &mut [u16], n: usize, k: usiz
 }
 
 // The number of states, MAX_STATES + 1 for too many. The states in the order found, and their moves: state i by zone z at ZONES * i + z,
-// the place of the next state, or MAX_STATES for a signal. For the crates of this repository: it has a `requires`.
+// the index of the next state, or MAX_STATES for a signal. For the crates of this repository: it has a `requires`.
 pub fn explore(list: RuleList, found: &mut [u64], moves: &mut [u16]) -> usize
     requires { ⌜ Explorable list (now found) (now moves) ⌝ }
     ensures { λ r. ⌜ Explored (stateAutomaton (activeRules list)) (now (found .exit)) (now (moves .exit)) r ⌝ }

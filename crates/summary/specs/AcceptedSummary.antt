@@ -10,7 +10,7 @@ use Rattle.bracket.specs.Limits.{minPercent, maxPercent}
 use Rattle.bracket.specs.AcceptedBracket.{Accepted}
 use Rattle.summary.specs.declared.Summary.{Summary}
 use Rattle.summary.specs.Summary.{summaryBy}
-use Rattle.summary.specs.ErrorBound.{maxErrorBound}
+use Rattle.summary.specs.ErrorBoundLaws.{maxErrorBound}
 
 -- chances whose every bracket is accepted, with so many states and this horizon
 pub record Summarizable (pmf : List ℕ) (count h : ℕ) : Type 0 where

@@ -1,5 +1,5 @@
 -- The summary of a table: definitions and laws.
 pub mod Summary
-pub mod ErrorBound
+pub mod ErrorBoundLaws
 pub mod AcceptedSummary
 pub mod SummaryLaws

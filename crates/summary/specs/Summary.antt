@@ -6,32 +6,24 @@ use Rattle.runlength.specs.Chain.{errorBoundOf}
 use Rattle.table.specs.declared.TableFigures.{TableFigures}
 use Rattle.table.specs.declared.TableAnswer.{TableAnswer}
 use Rattle.table.specs.declared.TableAnswer.the-variants as table
-use Rattle.table.specs.Table.{TableCall, TableResult, tableOf}
-use Rattle.bracket.specs.Bracket.{percentilePlace}
+use Rattle.table.specs.Table.{TableCall, tableOf}
+use Rattle.bracket.specs.Bracket.{percentileBracket}
 use Rattle.summary.specs.declared.Summary.{Summary}
 use Rattle.summary.specs.declared.SummaryAnswer.{SummaryAnswer}
 use Rattle.summary.specs.declared.SummaryAnswer.the-variants.{Accepted, Refused}
+use Rattle.table.specs.Table.{CallResult, callResult}
 
--- the table's figures, the error bound of its mean, and the places of five percentiles, by its chances and its number of states
+-- the table's figures, the error bound of its mean, and the brackets of five percentiles, by its chances and its number of states
 unfoldable pub summaryBy : List ℕ → TableFigures → ℕ → Summary
 summaryBy pmf f h = record {
   figures = f;
   «error_bound» = errorBoundOf (f .«state_count») h;
-  p5 = percentilePlace pmf (f .«state_count») 5;
-  p25 = percentilePlace pmf (f .«state_count») 25;
-  p50 = percentilePlace pmf (f .«state_count») 50;
-  p75 = percentilePlace pmf (f .«state_count») 75;
-  p95 = percentilePlace pmf (f .«state_count») 95;
+  p5 = percentileBracket pmf (f .«state_count») 5;
+  p25 = percentileBracket pmf (f .«state_count») 25;
+  p50 = percentileBracket pmf (f .«state_count») 50;
+  p75 = percentileBracket pmf (f .«state_count») 75;
+  p95 = percentileBracket pmf (f .«state_count») 95;
 }
-
--- the answer, and the two lists as they then are
-pub record SummaryResult : Type 0 where
-  pub answer : SummaryAnswer
-  pub pmfList : List ℕ
-  pub survivalList : List ℕ
-
-abbrev pub summaryResult : SummaryAnswer → List ℕ → List ℕ → SummaryResult
-summaryResult a p s = record { answer = a; pmfList = p; survivalList = s }
 
 -- by the table's answer and the list of chances that it leaves, of which the first h count; refused as the table is
 unfoldable pub summarized : TableAnswer → ℕ → List ℕ → SummaryAnswer
@@ -39,8 +31,8 @@ summarized (table.Accepted f) h p = Accepted (summaryBy (take h p) f h)
 summarized (table.Refused x) h p = Refused x
 
 -- by the table's result, whose lists it leaves
-abbrev pub summaryAfter : ℕ → TableResult → SummaryResult
-summaryAfter h r = summaryResult (summarized (r .answer) h (r .pmfList)) (r .pmfList) (r .survivalList)
+abbrev pub summaryAfter : ℕ → CallResult TableAnswer → CallResult SummaryAnswer
+summaryAfter h r = callResult (summarized (r .answer) h (r .pmfList)) (r .pmfList) (r .survivalList)
 
-unfoldable pub summaryOf : TableCall → SummaryResult
+unfoldable pub summaryOf : TableCall → CallResult SummaryAnswer
 summaryOf t = summaryAfter (t .horizon) (tableOf t)

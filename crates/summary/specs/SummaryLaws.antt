@@ -9,23 +9,24 @@ use Rattle.rules.specs.declared.refusal.Refusal.{Refusal}
 use Rattle.table.specs.declared.TableFigures.{TableFigures}
 use Rattle.table.specs.declared.TableAnswer.{TableAnswer}
 use Rattle.table.specs.declared.TableAnswer.the-variants as table
-use Rattle.table.specs.Table.{TableCall, TableResult, tableResult, tableOf, pmfOf}
+use Rattle.table.specs.Table.{TableCall, tableOf, pmfOf}
 use Rattle.table.specs.AcceptedTable.{AcceptedTable}
 use Rattle.table.specs.AcceptedTableLaws.{accepted-table}
 use Rattle.bracket.specs.Limits.{minPercent, maxPercent}
 use Rattle.bracket.specs.AcceptedBracket as Bracket
 use Rattle.summary.specs.declared.Summary.{Summary}
 use Rattle.summary.specs.declared.SummaryAnswer.the-variants.{Accepted, Refused}
-use Rattle.summary.specs.Summary.{summaryBy, summaryResult, summarized, summaryOf}
-use Rattle.summary.specs.ErrorBound.{error-bound-most}
+use Rattle.summary.specs.Summary.{summaryBy, summarized, summaryOf}
+use Rattle.summary.specs.ErrorBoundLaws.{error-bound-most}
 use Rattle.summary.specs.AcceptedSummary.{Summarizable, AcceptedSummary}
+use Rattle.table.specs.Table.{CallResult, callResult}
 
 -- the bracket of exactly an accepted table's chances, with its N, is accepted for every percent
 pub brackets-accepted : {t : TableCall} {f : TableFigures} → AcceptedTable t f → (p : ℕ) → minPercent ≤ p → p ≤ maxPercent
     → Bracket.Accepted (pmfOf t) (f .«state_count») p
 brackets-accepted {t} {f} a p low high = record {
-  not-empty = omega (arith, a .pmf-length, a .chart .some-horizon);
-  short = omega (arith, a .pmf-length, a .chart .most-horizon);
+  not-empty = omega (arith, a .pmf-length, a .chain .some-horizon);
+  short = omega (arith, a .pmf-length, a .chain .most-horizon);
   some-states = a .some-states;
   few-states = a .few-states;
   some-percent = low;
@@ -36,24 +37,24 @@ brackets-accepted {t} {f} a p low high = record {
 table-summarizable : {t : TableCall} {f : TableFigures} → AcceptedTable t f → Summarizable (pmfOf t) (f .«state_count») (t .horizon)
 table-summarizable a = record {
   few = a .few-states;
-  some-horizon = a .chart .some-horizon;
-  most-horizon = a .chart .most-horizon;
+  some-horizon = a .chain .some-horizon;
+  most-horizon = a .chain .most-horizon;
   brackets = brackets-accepted a;
 }
 
 -- ---- the operation, by what one run of the table left
 
-module _ (t : TableCall) {a : TableAnswer} {p s : List ℕ} (run : tableResult a p s ≡ tableOf t) where
-  pub refused-summary : {x : Refusal} → a ≡ table.Refused x → summaryResult (Refused x) p s ≡ summaryOf t
+module _ (t : TableCall) {a : TableAnswer} {p s : List ℕ} (run : callResult a p s ≡ tableOf t) where
+  pub refused-summary : {x : Refusal} → a ≡ table.Refused x → callResult (Refused x) p s ≡ summaryOf t
   unfolding summaryOf summarized
   refused-summary e = rw (← run, e)
 
   module _ {f : TableFigures} (accepted : a ≡ table.Accepted f) where
     call : AcceptedTable t f
-    call = accepted-table t f (ap (λ (r : TableResult). r .answer) (sym run) ∙ accepted)
+    call = accepted-table t f (ap (λ (r : CallResult TableAnswer). r .answer) (sym run) ∙ accepted)
 
     list-is : p ≡ tableOf t .pmfList
-    list-is = ap (λ (r : TableResult). r .pmfList) run
+    list-is = ap (λ (r : CallResult TableAnswer). r .pmfList) run
 
     -- the list of chances is long enough
     pub left-room : t .horizon ≤ length p
@@ -62,7 +63,7 @@ module _ (t : TableCall) {a : TableAnswer} {p s : List ℕ} (run : tableResult a
     pub left-summarizable : Summarizable (take (t .horizon) p) (f .«state_count») (t .horizon)
     left-summarizable = rw list-is (table-summarizable call)
 
-    pub accepted-run : {r : Summary} → r ≡ summaryBy (take (t .horizon) p) f (t .horizon) → summaryResult (Accepted r) p s ≡ summaryOf t
+    pub accepted-run : {r : Summary} → r ≡ summaryBy (take (t .horizon) p) f (t .horizon) → callResult (Accepted r) p s ≡ summaryOf t
     unfolding summaryOf summarized
     accepted-run e = rw (← run, accepted, e)
 
@@ -74,7 +75,7 @@ of-table {t} {f} a = record {
   table = a;
   is = refl;
   brackets = brackets-accepted a;
-  error-most = error-bound-most (f .«state_count») (t .horizon) (a .few-states) (a .chart .most-horizon);
+  error-most = error-bound-most (f .«state_count») (t .horizon) (a .few-states) (a .chain .most-horizon);
 }
 
 pub accepted-summary : (t : TableCall) (s : Summary) → summaryOf t .answer ≡ Accepted s → AcceptedSummary t s

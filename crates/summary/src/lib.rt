@@ -1,6 +1,6 @@
 // A table in short: one run gives its number of states, its survival at the horizon, its mean with the error bound, and five percentiles.
-use bracket::Place;
-use bracket::percentile_place;
+use bracket::Bracket;
+use bracket::find_bracket;
 use rules::Refusal;
 use rules::RuleList;
 use rules::ZONES;
@@ -12,18 +12,19 @@ ghost use Rattle.rules.specs.Bounds.{maxStates};
 ghost use Rattle.runlength.specs.Scale.{minHorizon, maxHorizon};
 ghost use Rattle.runlength.specs.Chain.{errorBoundOf};
 ghost use Rattle.table.specs.Table.{tableCall};
-ghost use Rattle.summary.specs.Summary.{summaryBy, summaryResult, summaryOf};
+ghost use Rattle.summary.specs.Summary.{summaryBy, summaryOf};
 ghost use Rattle.summary.specs.AcceptedSummary.{Summarizable};
+ghost use Rattle.table.specs.Table.{callResult};
 
-// The error bound (document 01's allowed shortfall) is of the mean, in units of 2^-60. Of each percent the place of its percentile.
+// The error bound (document 01's allowed shortfall) is of the mean, in units of 2^-60. Of each percent the bracket of its percentile.
 pub struct Summary {
     pub figures: TableFigures,
     pub error_bound: u64,
-    pub p5: Place,
-    pub p25: Place,
-    pub p50: Place,
-    pub p75: Place,
-    pub p95: Place,
+    pub p5: Bracket,
+    pub p25: Bracket,
+    pub p50: Bracket,
+    pub p75: Bracket,
+    pub p95: Bracket,
 }
 
 pub enum SummaryAnswer {
@@ -49,11 +50,11 @@ fn summarize(pmf: &[u64], figures: TableFigures, horizon: u32) -> Summary
     Summary {
         figures,
         error_bound: mean_error_bound(state_count, horizon),
-        p5: percentile_place(pmf, state_count, 5),
-        p25: percentile_place(pmf, state_count, 25),
-        p50: percentile_place(pmf, state_count, 50),
-        p75: percentile_place(pmf, state_count, 75),
-        p95: percentile_place(pmf, state_count, 95),
+        p5: find_bracket(pmf, state_count, 5),
+        p25: find_bracket(pmf, state_count, 25),
+        p50: find_bracket(pmf, state_count, 50),
+        p75: find_bracket(pmf, state_count, 75),
+        p95: find_bracket(pmf, state_count, 95),
     }
 }
 
@@ -66,7 +67,7 @@ pub fn table_summary(
     pmf: &mut [u64],
     survival: &mut [u64],
 ) -> SummaryAnswer
-    ensures { λ r. ⌜ summaryResult r (now (pmf .exit)) (now (survival .exit))
+    ensures { λ r. ⌜ callResult r (now (pmf .exit)) (now (survival .exit))
         ≡ summaryOf (tableCall list weights horizon (now (pmf .entry)) (now (survival .entry))) ⌝ }
 {
     let answer = table::run_length_table(list, weights, horizon, pmf, survival);

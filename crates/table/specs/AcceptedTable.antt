@@ -1,4 +1,4 @@
--- What a chart and a table call that are accepted have: all that the layers above may use. Working definitions.
+-- What a chain and a table call that are accepted have: all that the layers above may use. Working definitions.
 use mathlib.Core.Path.{_≡_}
 use mathlib.Core.List.{List}
 use Prim.Native.Nat.{ℕ, suc, _≤_, _<_}
@@ -16,7 +16,7 @@ use Rattle.chain.specs.TableChain.{exploredCount, stateCount}
 use Rattle.table.specs.Table.{TableCall, rulesOf, chainOf, tableOf, pmfOf, meanOf}
 
 -- the rules, the weights, the horizon and the states explored are in bounds
-pub record AcceptedChart (l : RuleList) (w : List ℕ) (h : ℕ) : Type 0 where
+pub record AcceptedChain (l : RuleList) (w : List ℕ) (h : ℕ) : Type 0 where
   pub rules : checkOf l ≡ Accepted
   pub bounds : AllInBounds (activeRules l)
   pub weights : sum zoneCount (at w) ≡ weightTotal
@@ -26,7 +26,7 @@ pub record AcceptedChart (l : RuleList) (w : List ℕ) (h : ℕ) : Type 0 where
 
 -- the call was accepted with the figures f
 pub record AcceptedTable (t : TableCall) (f : TableFigures) : Type 0 where
-  pub chart : AcceptedChart (t .list) (t .weights) (t .horizon)
+  pub chain : AcceptedChain (t .list) (t .weights) (t .horizon)
   pub proper : Proper (chainOf t)
   -- N
   pub count-is : f .«state_count» ≡ stateCount (rulesOf t)

@@ -17,14 +17,15 @@ use Rattle.runlength.specs.Sum.{at, sum, tab, front}
 use Rattle.runlength.specs.SumLaws.{sum-cong, sum-le, sum-const}
 use Rattle.runlength.specs.TabLaws.{length-tab, getD-tab, front-length, front-at}
 use Rattle.runlength.specs.Chain.{Chain, Proper, pmf, cdf, survival, restrictedMean, cdfOf}
-use Rattle.runlength.specs.Conservation.{mass-conservation}
+use Rattle.runlength.specs.ConservationLaws.{mass-conservation}
 use Rattle.table.specs.declared.TableFigures.{TableFigures}
 use Rattle.table.specs.declared.TableAnswer.{TableAnswer}
 use Rattle.rules.specs.Check.{unless}
-use Rattle.table.specs.Table.{TableCall, rulesOf, chainOf, chartCheck, tableCheck, TableResult, figuresOf, filled, tableOf, pmfOf}
-use Rattle.table.specs.AcceptedTable.{AcceptedChart, AcceptedTable}
+use Rattle.table.specs.Table.{TableCall, rulesOf, chainOf, chainCheck, tableCheck, figuresOf, filled, tableOf, pmfOf}
+use Rattle.table.specs.AcceptedTable.{AcceptedChain, AcceptedTable}
 use Rattle.chain.specs.TableChainLaws.{count-some, count-explored, chain-proper}
-use Rattle.table.specs.ChartLaws.{passed, accepted-chart}
+use Rattle.table.specs.ChainCheckLaws.{passed, accepted-chain}
+use Rattle.table.specs.Table.{CallResult}
 
 -- ---- lists written from the front
 
@@ -44,16 +45,16 @@ mean-most c p h =
 -- ---- the call
 
 -- a call that passed left the chain's figures
-module _ (t : TableCall) (chart : AcceptedChart (t .list) (t .weights) (t .horizon)) (pmf-room : t .horizon ≤ length (t .pmfBefore))
+module _ (t : TableCall) (chart : AcceptedChain (t .list) (t .weights) (t .horizon)) (pmf-room : t .horizon ≤ length (t .pmfBefore))
     (survival-room : t .horizon ≤ length (t .survivalBefore)) (r : tableOf t ≡ filled (chainOf t) t) where
   is-proper : Proper (chainOf t)
   is-proper = chain-proper (rulesOf t) (t .weights) (chart .weights)
 
   pmf-is : tableOf t .pmfList ≡ front (t .horizon) (λ k. pmf (chainOf t) (suc k)) (t .pmfBefore)
-  pmf-is = ap (λ (x : TableResult). x .pmfList) r
+  pmf-is = ap (λ (x : CallResult TableAnswer). x .pmfList) r
 
   survival-is : tableOf t .survivalList ≡ front (t .horizon) (λ k. survival (chainOf t) (suc k)) (t .survivalBefore)
-  survival-is = ap (λ (x : TableResult). x .survivalList) r
+  survival-is = ap (λ (x : CallResult TableAnswer). x .survivalList) r
 
   written : pmfOf t ≡ tab (t .horizon) (λ k. pmf (chainOf t) (suc k))
   written = ap (take (t .horizon)) pmf-is ∙ take-front (t .horizon) (λ k. pmf (chainOf t) (suc k)) (t .pmfBefore)
@@ -72,7 +73,7 @@ module _ (t : TableCall) (chart : AcceptedChart (t .list) (t .weights) (t .horiz
 
   left-figures : AcceptedTable t (figuresOf (chainOf t) (t .horizon))
   left-figures = record {
-    chart = chart;
+    chain = chart;
     proper = is-proper;
     count-is = refl;
     some-states = count-some (rulesOf t);
@@ -102,11 +103,11 @@ accepted-table t f e = go (tableCheck t) refl
     go : (c : Checked) → tableCheck t ≡ c → AcceptedTable t f
     go Accepted q =
         let r : tableOf t ≡ filled (chainOf t) t = rw q in
-        let a = both (chartCheck (t .list) (t .weights) (t .horizon)) _ q in
+        let a = both (chainCheck (t .list) (t .weights) (t .horizon)) _ q in
         let b = both (unless (leb (t .horizon) (length (t .pmfBefore))) shortList) _ (a .1) in
-        let same : f ≡ figuresOf (chainOf t) (t .horizon) = cc (ap (λ (x : TableResult). x .answer) r) in
+        let same : f ≡ figuresOf (chainOf t) (t .horizon) = cc (ap (λ (x : CallResult TableAnswer). x .answer) r) in
         rw same
-        (left-figures t (accepted-chart (t .list) (t .weights) (t .horizon) (a .0)) (leb-true _ _ (passed _ shortList (b .0)))
+        (left-figures t (accepted-chain (t .list) (t .weights) (t .horizon) (a .0)) (leb-true _ _ (passed _ shortList (b .0)))
         (leb-true _ _ (passed _ shortList (b .1))) r)
     go (Refused x) q =
         let r : tableOf t .answer ≡ TableAnswer.Refused x = rw q in

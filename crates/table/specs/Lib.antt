@@ -1,8 +1,8 @@
 -- The table operation: definitions and laws.
 pub mod Table
-pub mod ChartChecked
+pub mod ChainChecked
 pub mod AcceptedTable
-pub mod ChartLaws
-pub mod ChartCheckedLaws
+pub mod ChainCheckLaws
+pub mod ChainCheckedLaws
 pub mod TableLaws
 pub mod AcceptedTableLaws

@@ -38,8 +38,8 @@ chainOf t = tableChain (rulesOf t) (t .weights)
 -- ---- the refusals in their order
 
 -- of a chart: 2, 3, 4; 8; 9; 10
-unfoldable pub chartCheck : RuleList → List ℕ → ℕ → Checked
-chartCheck l weights horizon =
+unfoldable pub chainCheck : RuleList → List ℕ → ℕ → Checked
+chainCheck l weights horizon =
     orElse (checkOf l)
     (orElse (unless (eqb (sum zoneCount (at weights)) weightTotal) badWeights)
     (orElse (unless (within minHorizon maxHorizon horizon) badHorizon)
@@ -48,20 +48,20 @@ chartCheck l weights horizon =
 -- of a call: the chart's; then 11 for either list
 unfoldable pub tableCheck : TableCall → Checked
 tableCheck t =
-    orElse (chartCheck (t .list) (t .weights) (t .horizon))
+    orElse (chainCheck (t .list) (t .weights) (t .horizon))
     (orElse (unless (leb (t .horizon) (length (t .pmfBefore))) shortList)
     (unless (leb (t .horizon) (length (t .survivalBefore))) shortList))
 
 -- ---- the result
 
 -- the answer, and the two lists as they then are
-pub record TableResult : Type 0 where
-  pub answer : TableAnswer
+pub record CallResult (A : Type 0) : Type 0 where
+  pub answer : A
   pub pmfList : List ℕ
   pub survivalList : List ℕ
 
-abbrev pub tableResult : TableAnswer → List ℕ → List ℕ → TableResult
-tableResult a p s = record { answer = a; pmfList = p; survivalList = s }
+abbrev pub callResult : {A : Type 0} → A → List ℕ → List ℕ → CallResult A
+callResult a p s = record { answer = a; pmfList = p; survivalList = s }
 
 -- N, survival at the horizon, and the restricted mean as whole part and fraction in units
 abbrev pub figuresOf : Chain → ℕ → TableFigures
@@ -73,18 +73,18 @@ figuresOf c h = record {
 }
 
 -- the figures of n = 1 to the horizon in the first places, and the places beyond kept
-abbrev pub filled : Chain → TableCall → TableResult
+abbrev pub filled : Chain → TableCall → CallResult TableAnswer
 filled c t =
-    tableResult (TableAnswer.Accepted (figuresOf c (t .horizon)))
+    callResult (TableAnswer.Accepted (figuresOf c (t .horizon)))
     (front (t .horizon) (λ k. pmf c (suc k)) (t .pmfBefore))
     (front (t .horizon) (λ k. survival c (suc k)) (t .survivalBefore))
 
 -- a refusal leaves both lists as they were
-abbrev pub tableBy : Checked → TableCall → TableResult
+abbrev pub tableBy : Checked → TableCall → CallResult TableAnswer
 tableBy Accepted t = filled (chainOf t) t
-tableBy (Refused x) t = tableResult (TableAnswer.Refused x) (t .pmfBefore) (t .survivalBefore)
+tableBy (Refused x) t = callResult (TableAnswer.Refused x) (t .pmfBefore) (t .survivalBefore)
 
-unfoldable pub tableOf : TableCall → TableResult
+unfoldable pub tableOf : TableCall → CallResult TableAnswer
 tableOf t = tableBy (tableCheck t) t
 
 -- ---- what is read of it

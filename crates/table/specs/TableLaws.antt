@@ -19,20 +19,21 @@ use Rattle.rows.specs.Rows.{Ran}
 use Rattle.table.specs.declared.TableFigures.{TableFigures}
 use Rattle.table.specs.declared.TableAnswer.{TableAnswer}
 use Rattle.chain.specs.TableChain.{chainMoves, tableAutomaton}
-use Rattle.table.specs.Table.{TableCall, rulesOf, chainOf, chartCheck, tableCheck, tableResult, filled, tableOf}
+use Rattle.table.specs.Table.{TableCall, rulesOf, chainOf, chainCheck, tableCheck, filled, tableOf}
 use Rattle.chain.specs.HeldMoves.{HoldsMoves}
 use Rattle.chain.specs.PrefixLaws.{front-cong, pmf-same, survival-same, mean-same}
+use Rattle.table.specs.Table.{callResult}
 
 module _ (t : TableCall) where
   -- refused with both lists as they were
   abbrev RefusedBy : Refusal → Type 0
-  RefusedBy x = tableResult (TableAnswer.Refused x) (t .pmfBefore) (t .survivalBefore) ≡ tableOf t
+  RefusedBy x = callResult (TableAnswer.Refused x) (t .pmfBefore) (t .survivalBefore) ≡ tableOf t
 
-  pub chart-refused : {x : Refusal} → chartCheck (t .list) (t .weights) (t .horizon) ≡ Refused x → RefusedBy x
+  pub chain-refused : {x : Refusal} → chainCheck (t .list) (t .weights) (t .horizon) ≡ Refused x → RefusedBy x
   unfolding tableOf tableCheck
-  chart-refused e = rw e
+  chain-refused e = rw e
 
-  module _ (chart : chartCheck (t .list) (t .weights) (t .horizon) ≡ Accepted) where
+  module _ (chart : chainCheck (t .list) (t .weights) (t .horizon) ≡ Accepted) where
     pub short-pmf : length (t .pmfBefore) < t .horizon → RefusedBy shortList
     unfolding tableOf tableCheck
     short-pmf n = rw (chart, lt-leb (t .horizon) (length (t .pmfBefore)) n)
@@ -54,7 +55,7 @@ module _ (t : TableCall) {m p′ s′ : List ℕ} {n last whole fraction : ℕ} 
   abbrev figures : TableFigures
   figures = record { «state_count» = n; survival = last; «mean_whole» = whole; «mean_fraction» = fraction }
 
-  pub rows-filled : tableResult (TableAnswer.Accepted figures) p′ s′ ≡ filled (chainOf t) t
+  pub rows-filled : callResult (TableAnswer.Accepted figures) p′ s′ ≡ filled (chainOf t) t
   unfolding tableAutomaton
   rows-filled =
       let h = t .horizon in
@@ -75,11 +76,11 @@ module _ (t : TableCall) {m p′ s′ : List ℕ} {n last whole fraction : ℕ} 
 
 -- with lists that are long enough the check of a call is that of its chart
 pub room-check : (t : TableCall) → t .horizon ≤ length (t .pmfBefore) → t .horizon ≤ length (t .survivalBefore)
-    → tableCheck t ≡ chartCheck (t .list) (t .weights) (t .horizon)
+    → tableCheck t ≡ chainCheck (t .list) (t .weights) (t .horizon)
 unfolding tableCheck
 room-check t p s =
     rw (le-leb (t .horizon) (length (t .pmfBefore)) p, le-leb (t .horizon) (length (t .survivalBefore)) s)
-    (go (chartCheck (t .list) (t .weights) (t .horizon)))
+    (go (chainCheck (t .list) (t .weights) (t .horizon)))
   where
     go : (c : Checked) → orElse c (orElse Accepted Accepted) ≡ c
     go Accepted = refl

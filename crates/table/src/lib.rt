@@ -1,14 +1,15 @@
 // The run-length table of a rule list: how likely a chart is to signal at each point up to a horizon.
-use chain::ChartAnswer;
+use chain::ChainAnswer;
 use rules::Refusal;
 use rules::RuleList;
 use rules::ZONES;
 ghost use mathlib.Core.Path.{_≡_};
-ghost use Rattle.table.specs.Table.{tableCall, tableResult, tableOf};
+ghost use Rattle.table.specs.Table.{tableCall, tableOf};
+ghost use Rattle.table.specs.Table.{callResult};
 
-mod chart;
+mod check;
 
-pub use chart::check_chart;
+pub use check::check_chain;
 
 // What an accepted call answers besides the two lists: N, the number of states that differ, left at the horizon, and the cut mean as whole
 // part and fraction in units of 2^-60.
@@ -33,14 +34,14 @@ pub fn run_length_table(
     pmf: &mut [u64],
     survival: &mut [u64],
 ) -> TableAnswer
-    ensures { λ r. ⌜ tableResult r (now (pmf .exit)) (now (survival .exit))
+    ensures { λ r. ⌜ callResult r (now (pmf .exit)) (now (survival .exit))
         ≡ tableOf (tableCall list weights horizon (now (pmf .entry)) (now (survival .entry))) ⌝ }
 {
     let mut moves = [0u16; ZONES * RuleList::MAX_STATES];
-    let checked = check_chart(list, weights, horizon, &mut moves);
+    let checked = check_chain(list, weights, horizon, &mut moves);
     let n = match checked {
-        ChartAnswer::Refused(refusal) => return TableAnswer::Refused(refusal),
-        ChartAnswer::Accepted(n) => n,
+        ChainAnswer::Refused(refusal) => return TableAnswer::Refused(refusal),
+        ChainAnswer::Accepted(n) => n,
     };
     let h = horizon as usize;
     if pmf.len() < h {

@@ -14,17 +14,17 @@ use Rattle.rules.specs.NumbersLaws.{on-both, refused-by, list-number}
 use Rattle.runlength.specs.Sum.{sum, at}
 use Rattle.runlength.specs.Scale.{maxHorizon, weightTotal, minHorizon}
 use Rattle.chain.specs.TableChain.{exploredCount}
-use Rattle.table.specs.Table.{chartCheck}
-use Rattle.table_claims.specs.TableOutput.{chartNumbers}
+use Rattle.table.specs.Table.{chainCheck}
+use Rattle.table_claims.specs.TableOutput.{chainNumbers}
 
-more-numbers : {x : ℕ} → OneOf ruleNumbers x → OneOf chartNumbers x
+more-numbers : {x : ℕ} → OneOf ruleNumbers x → OneOf chainNumbers x
 more-numbers (here e) = here e
 more-numbers (there (here e)) = there (here e)
 more-numbers (there (there (here e))) = there (there (here e))
 
-pub chart-number : (l : RuleList) (w : List ℕ) (h : ℕ) (x : Refusal) → chartCheck l w h ≡ Refused x → OneOf chartNumbers (x .number)
-unfolding chartCheck
-chart-number l w h x e =
+pub chain-number : (l : RuleList) (w : List ℕ) (h : ℕ) (x : Refusal) → chainCheck l w h ≡ Refused x → OneOf chainNumbers (x .number)
+unfolding chainCheck
+chain-number l w h x e =
     let weights = eqb (sum zoneCount (at w)) weightTotal in
     let horizon = within minHorizon maxHorizon h in
     let count = leb (exploredCount (activeRules l)) maxStates in

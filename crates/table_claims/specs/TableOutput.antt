@@ -21,15 +21,23 @@ use Rattle.table_report.specs.TableReport.{reportHorizon}
 use Rattle.runlength.specs.Scale.{weightTotal, unitsPerOne}
 use Rattle.runlength.specs.Chain.{pmf, cdf, survival, restrictedMean}
 use Rattle.chain.specs.TableChain.{stateCount, tableChain}
-use Rattle.table.specs.Table.{chartCheck}
-use Rattle.bracket.specs.declared.Place.{Place}
-use Rattle.bracket.specs.Contains.{PlaceContains}
+use Rattle.table.specs.Table.{chainCheck}
+use Rattle.bracket.specs.declared.Bracket.{Bracket}
+use Rattle.bracket.specs.Contains.{BracketContains}
 use Rattle.claims.specs.Exact.{exactSum, exactMean, reached}
 use Rattle.table_claims.specs.TableTexts.{TableTextIs}
+use Prim.Native.Nat.{ℕ, zero, suc, _+_, _≤_, _<_}
+use mathlib.Core.Path.{_≡_}
+use mathlib.Core.List.{List, [], _∷_, _++_}
+use Prim.Native.Nat.{ℕ}
+use mathlib.Core.Path.{_≡_}
+use mathlib.Core.List.{List, _∷_}
+use Rattle.rules.specs.Numbers.{OneOf}
+use Rattle.rules.specs.Refusal.{badLine, tooLong}
 
 -- the numbers that a chart is refused by: 2, 3, 4; 8; 9; 10
-abbrev pub chartNumbers : List ℕ
-chartNumbers =
+abbrev pub chainNumbers : List ℕ
+chainNumbers =
     badRuleCount .number ∷ badRuleBounds 0 .number ∷ badZoneSet 0 .number ∷ badWeights .number ∷ badHorizon .number ∷ tooManyStates 0 .number ∷ []
 
 -- f 1, f 2, .., f h, one behind the other
@@ -53,7 +61,7 @@ pub record Figures : Type 0 where
   pub whole : ℕ
   pub fraction : ℕ
   pub errorBound : ℕ
-  pub place : ℕ → Place
+  pub bracket : ℕ → Bracket
 
 -- all the lines of a table with h rows
 unfoldable pub figureLines : ℕ → Figures → List ℕ
@@ -62,7 +70,7 @@ figureLines h f =
     ++ headerLine
     ++ rows h (λ n. rowLine n (f .pmf n) (f .cdf n) (f .survival n))
     ++ arlLine (f .whole) (f .fraction) (f .errorBound)
-    ++ fivePercents (λ p. percentLine p (f .place p))
+    ++ fivePercents (λ p. percentLine p (f .bracket p))
 
 -- The numbers are document 01's figures for these weights, rules and horizon to the last unit, and they bound the exact ones.
 pub record FiguresHold (w : List ℕ) (rs : List Rule) (h : ℕ) (f : Figures) : Type 0 where
@@ -82,7 +90,7 @@ pub record FiguresHold (w : List ℕ) (rs : List Rule) (h : ℕ) (f : Figures) :
   pub mean-bounds : ((f .whole * unitsPerOne + f .fraction) * weightTotal ^ h ≤ exactMean rs w h * unitsPerOne)
       × (exactMean rs w h * unitsPerOne ≤ (f .whole * unitsPerOne + f .fraction + f .errorBound) * weightTotal ^ h)
   -- each q line contains the true percentile
-  pub contains : EachPercent (λ p. PlaceContains (reached rs w p) (f .place p))
+  pub contains : EachPercent (λ p. BracketContains (reached rs w p) (f .bracket p))
 
 -- why a table text is refused, with the number and the place: the text itself, 17 or 16; or its rules, weights and horizon, the first number
 -- of the table operation's that applies
@@ -90,8 +98,8 @@ pub data TableRefusal (s : List ℕ) : ℕ → ℕ → Type 0 where
   too-long : maxText < length s → TableRefusal s (tooLong .number) 0
   bad-line : (place : ℕ) → length s ≤ maxText → Stops tableGrammar s place → TableRefusal s (badLine place .number) place
   bad-table : (w : List ℕ) (rs : List Rule) (h : ℕ) (x : Refusal) → TableTextIs s w rs h
-      → chartCheck (ruleListOf rs) w (reportHorizon h) ≡ Refused x
-      → OneOf chartNumbers (x .number) → TableRefusal s (x .number) (x .place)
+      → chainCheck (ruleListOf rs) w (reportHorizon h) ≡ Refused x
+      → OneOf chainNumbers (x .number) → TableRefusal s (x .number) (x .place)
 
 -- what the table program prints for the text s
 pub data TableProgram (s : List ℕ) (printed : List ℕ) : Type 0 where
@@ -99,5 +107,21 @@ pub data TableProgram (s : List ℕ) (printed : List ℕ) : Type 0 where
   refuses : (number place : ℕ) → printed ≡ refusedLine number place → TableRefusal s number place → TableProgram s printed
   -- the lines of figures that hold of the weights, rules and horizon whose lines the text is
   prints : (w : List ℕ) (rs : List Rule) (h : ℕ) (f : Figures) → TableTextIs s w rs h
-      → h ≤ maxRows → chartCheck (ruleListOf rs) w h ≡ Accepted
+      → h ≤ maxRows → chainCheck (ruleListOf rs) w h ≡ Accepted
       → printed ≡ figureLines h f → FiguresHold w rs h f → TableProgram s printed
+
+-- the row n has the same numbers
+abbrev pub SameRow : Figures → Figures → ℕ → Type 0
+SameRow f g n = (f .pmf n ≡ g .pmf n) × (f .cdf n ≡ g .cdf n) × (f .survival n ≡ g .survival n)
+
+pub record SameFigures (h : ℕ) (f g : Figures) : Type 0 where
+  pub count : f .count ≡ g .count
+  pub row : (n : ℕ) → 1 ≤ n → n ≤ h → SameRow f g n
+  pub whole : f .whole ≡ g .whole
+  pub fraction : f .fraction ≡ g .fraction
+  pub errorBound : f .errorBound ≡ g .errorBound
+  pub brackets : EachPercent (λ p. f .bracket p ≡ g .bracket p)
+
+-- the numbers that a text is refused by
+abbrev pub tableNumbers : List ℕ
+tableNumbers = tooLong .number ∷ badLine 0 .number ∷ chainNumbers

@@ -3,8 +3,8 @@ use Prim.Native.Nat.{ℕ, _+_, _*_}
 use mathlib.Core.List.{List, [], _∷_, _++_}
 use lib.ListN.{length}
 use Rattle.decimal.specs.Word.{comma, newline}
-use Rattle.bracket.specs.declared.Place.{Place}
-use Rattle.bracket.specs.declared.Place.the-variants.{At, Between, Open, Beyond}
+use Rattle.bracket.specs.declared.Bracket.{Bracket}
+use Rattle.bracket.specs.declared.Bracket.the-variants.{At, Between, Open, Beyond}
 use Rattle.summary.specs.declared.Summary.{Summary}
 use Rattle.write.specs.Field.{field, fieldRoom}
 
@@ -29,27 +29,27 @@ abbrev pub beyondWord : List ℕ
 beyondWord = 98 ∷ 101 ∷ 121 ∷ 111 ∷ 110 ∷ 100 ∷ []
 
 -- where the percentile lies: at,n or between,low,high or open,low or beyond,h
-unfoldable pub placeFields : Place → List ℕ
-placeFields (At n) = comma ++ atWord ++ field n
-placeFields (Between low high) = comma ++ betweenWord ++ field low ++ field high
-placeFields (Open low) = comma ++ openWord ++ field low
-placeFields (Beyond h) = comma ++ beyondWord ++ field h
+unfoldable pub bracketFields : Bracket → List ℕ
+bracketFields (At n) = comma ++ atWord ++ field n
+bracketFields (Between low high) = comma ++ betweenWord ++ field low ++ field high
+bracketFields (Open low) = comma ++ openWord ++ field low
+bracketFields (Beyond h) = comma ++ beyondWord ++ field h
 
 -- q,p and where it lies
-unfoldable pub percentLine : ℕ → Place → List ℕ
-percentLine p place = qWord ++ field p ++ placeFields place ++ newline
+unfoldable pub percentLine : ℕ → Bracket → List ℕ
+percentLine p bracket = qWord ++ field p ++ bracketFields bracket ++ newline
 
 -- the percents 5, 25, 50, 75, 95
 unfoldable pub percentLines : Summary → List ℕ
 percentLines s =
     percentLine 5 (s .p5) ++ percentLine 25 (s .p25) ++ percentLine 50 (s .p50) ++ percentLine 75 (s .p75) ++ percentLine 95 (s .p95)
 
--- the most bytes that each has; the longest place is `between` with its two fields
-abbrev pub placeRoom : ℕ
-placeRoom = length comma + length betweenWord + fieldRoom + fieldRoom
+-- the most bytes that each has; the longest bracket is `between` with its two fields
+abbrev pub bracketRoom : ℕ
+bracketRoom = length comma + length betweenWord + fieldRoom + fieldRoom
 
 abbrev pub percentRoom : ℕ
-percentRoom = length qWord + fieldRoom + placeRoom + length newline
+percentRoom = length qWord + fieldRoom + bracketRoom + length newline
 
 abbrev pub percentsRoom : ℕ
 percentsRoom = 5 * percentRoom

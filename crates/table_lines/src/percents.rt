@@ -1,5 +1,5 @@
 // The table program's percentile lines.
-use bracket::Place;
+use bracket::Bracket;
 use summary::Summary;
 use write::put_byte;
 use write::put_field;
@@ -7,34 +7,34 @@ use write::put_named;
 ghost use Prim.Native.Nat.{_+_, _≤_};
 ghost use lib.ListN.{length};
 ghost use Rattle.write.specs.Wrote.{Wrote};
-ghost use Rattle.table_lines.specs.PercentLine.{placeFields, percentLine, percentLines};
-ghost use Rattle.table_lines.specs.PercentLine.{placeRoom, percentRoom, percentsRoom};
+ghost use Rattle.table_lines.specs.PercentLine.{bracketFields, percentLine, percentLines};
+ghost use Rattle.table_lines.specs.PercentLine.{bracketRoom, percentRoom, percentsRoom};
 
 // Where a percentile lies.
-fn put_place(out: &mut [u8], at: usize, place: Place) -> usize
-    requires { ⌜ at + placeRoom ≤ length (now out) ⌝ }
-    ensures { λ r. ⌜ Wrote (now (out .entry)) at (now (out .exit)) r (placeFields place) ⌝ }
-    ensures { λ r. ⌜ r ≤ at + placeRoom ⌝ }
+fn put_bracket(out: &mut [u8], at: usize, found: Bracket) -> usize
+    requires { ⌜ at + bracketRoom ≤ length (now out) ⌝ }
+    ensures { λ r. ⌜ Wrote (now (out .entry)) at (now (out .exit)) r (bracketFields found) ⌝ }
+    ensures { λ r. ⌜ r ≤ at + bracketRoom ⌝ }
 {
-    match place {
-        Place::At(n) => return put_named(out, at, b",at", n as u64),
-        Place::Between { low, high } => {
+    match found {
+        Bracket::At(n) => return put_named(out, at, b",at", n as u64),
+        Bracket::Between { low, high } => {
             let e = put_named(out, at, b",between", low as u64);
             return put_field(out, e, high as u64);
         }
-        Place::Open(low) => return put_named(out, at, b",open", low as u64),
-        Place::Beyond(h) => return put_named(out, at, b",beyond", h as u64),
+        Bracket::Open(low) => return put_named(out, at, b",open", low as u64),
+        Bracket::Beyond(h) => return put_named(out, at, b",beyond", h as u64),
     }
 }
 
 // The line of a percent and where its percentile lies.
-pub fn put_percent(out: &mut [u8], at: usize, percent: u32, place: Place) -> usize
+pub fn put_percent(out: &mut [u8], at: usize, percent: u32, found: Bracket) -> usize
     requires { ⌜ at + percentRoom ≤ length (now out) ⌝ }
-    ensures { λ r. ⌜ Wrote (now (out .entry)) at (now (out .exit)) r (percentLine percent place) ⌝ }
+    ensures { λ r. ⌜ Wrote (now (out .entry)) at (now (out .exit)) r (percentLine percent found) ⌝ }
     ensures { λ r. ⌜ r ≤ at + percentRoom ⌝ }
 {
     let a = put_named(out, at, b"q", percent as u64);
-    let b = put_place(out, a, place);
+    let b = put_bracket(out, a, found);
     put_byte(out, b, b'\n')
 }
 

@@ -6,11 +6,12 @@ use lib.Dec.{leb, eqb}
 use lib.ListN.{replicate}
 use Rattle.table.specs.Table.{TableCall, tableCall}
 use Rattle.summary.specs.declared.SummaryAnswer.{SummaryAnswer}
-use Rattle.summary.specs.Summary.{SummaryResult, summaryOf}
+use Rattle.summary.specs.Summary.{summaryOf}
 use Rattle.table_text.specs.declared.TableText.{TableText}
 use Rattle.table_text.specs.TableText.{tableText}
 use Rattle.table_lines.specs.TableLines.{tableBytes, maxRows}
 use Rattle.write.specs.Printed.{Printed, lines, refusedBy}
+use Rattle.table.specs.Table.{CallResult}
 
 -- the program takes a horizon up to 4,096; a larger one is refused by 9, in 9's place, as 0 is
 abbrev pub reportHorizon : ℕ → ℕ
@@ -29,12 +30,12 @@ abbrev pub tableLines : SummaryAnswer → ℕ → List ℕ → List ℕ → Prin
 tableLines (SummaryAnswer.Accepted s) h pmf survival = lines (tableBytes s h pmf survival)
 tableLines (SummaryAnswer.Refused x) h pmf survival = refusedBy x
 
-abbrev pub linesOf : SummaryResult → ℕ → Printed
-linesOf r h = tableLines (r .answer) h (r .pmfList) (r .survivalList)
+abbrev pub summaryLines : CallResult SummaryAnswer → ℕ → Printed
+summaryLines r h = tableLines (r .answer) h (r .pmfList) (r .survivalList)
 
 -- what was read: a refusal of the text, or the table
 unfoldable pub tablePrinted : List ℕ → Printed
 tablePrinted s =
     cond (eqb (tableText s .refusal .number) 0)
-    (linesOf (summaryOf (reportCall (tableText s))) (reportHorizon (tableText s .horizon)))
+    (summaryLines (summaryOf (reportCall (tableText s))) (reportHorizon (tableText s .horizon)))
     (refusedBy (tableText s .refusal))

@@ -14,7 +14,7 @@ use Rattle.runlength.specs.Chain.{cdfOf}
 use Rattle.table.specs.Table.{TableCall, tableCall}
 use Rattle.summary.specs.declared.Summary.{Summary}
 use Rattle.summary.specs.declared.SummaryAnswer.{SummaryAnswer}
-use Rattle.summary.specs.Summary.{SummaryResult, summaryResult, summaryOf}
+use Rattle.summary.specs.Summary.{summaryOf}
 use Rattle.summary.specs.AcceptedSummary.{AcceptedSummary}
 use Rattle.summary.specs.SummaryLaws.{accepted-summary}
 use Rattle.write.specs.Wrote.{Wrote}
@@ -24,7 +24,8 @@ use Rattle.table_lines.specs.TableLines.{tableBytes, maxRows}
 use Rattle.write.specs.declared.ReportAnswer.the-variants.{Written, Refused}
 use Rattle.write.specs.Printed.{report, reportOf}
 use Rattle.write.specs.PrintedLaws.{as-refused, as-written}
-use Rattle.table_report.specs.TableReport.{reportHorizon, linesOf, blank, tablePrinted}
+use Rattle.table_report.specs.TableReport.{reportHorizon, summaryLines, blank, tablePrinted}
+use Rattle.table.specs.Table.{CallResult, callResult}
 
 pub horizon-small : (h : ℕ) → reportHorizon h ≤ maxRows
 horizon-small h = go (leb h maxRows) (leb-true h maxRows)
@@ -35,21 +36,21 @@ horizon-small h = go (leb h maxRows) (leb-true h maxRows)
 
 -- ---- an accepted table can be printed
 
-module _ (t : TableCall) {a : SummaryAnswer} {p q : List ℕ} {s : Summary} (run : summaryResult a p q ≡ summaryOf t) (accepted : a ≡ SummaryAnswer.Accepted s) where
+module _ (t : TableCall) {a : SummaryAnswer} {p q : List ℕ} {s : Summary} (run : callResult a p q ≡ summaryOf t) (accepted : a ≡ SummaryAnswer.Accepted s) where
   call : AcceptedSummary t s
-  call = accepted-summary t s (ap (λ (r : SummaryResult). r .answer) (sym run) ∙ accepted)
+  call = accepted-summary t s (ap (λ (r : CallResult SummaryAnswer). r .answer) (sym run) ∙ accepted)
 
   pub rows-listed : (t .horizon ≤ length p) × (t .horizon ≤ length q)
   unfolding summaryOf
   rows-listed = (
-    rw (ap (λ (r : SummaryResult). r .pmfList) run) (call .table .pmf-room),
-    rw (ap (λ (r : SummaryResult). r .survivalList) run) (call .table .survival-room),
+    rw (ap (λ (r : CallResult SummaryAnswer). r .pmfList) run) (call .table .pmf-room),
+    rw (ap (λ (r : CallResult SummaryAnswer). r .survivalList) run) (call .table .survival-room),
   )
 
   pub rows-total : cdfOf p (t .horizon) ≤ unitsPerOne
   unfolding summaryOf
   rows-total =
-      rw (ap (λ (r : SummaryResult). r .pmfList) run, call .table .list-cdf (t .horizon) (le-refl (t .horizon))) (call .table .total)
+      rw (ap (λ (r : CallResult SummaryAnswer). r .pmfList) run, call .table .list-cdf (t .horizon) (le-refl (t .horizon))) (call .table .total)
 
 -- ---- the report of a text
 
@@ -60,15 +61,15 @@ module _ (s out : List ℕ) (t : TableText) (is : t ≡ tableText s) where
 
   -- h is the program's horizon, and a the answer to it
   module _ (read : t .refusal .number ≡ 0) (h : ℕ) (horizon : h ≡ reportHorizon (t .horizon)) (a : SummaryAnswer) (p q : List ℕ)
-      (run : summaryResult a p q ≡ summaryOf (tableCall (t .list) (t .weights) h blank blank)) where
-    printed : tablePrinted s ≡ linesOf (summaryResult a p q) h
+      (run : callResult a p q ≡ summaryOf (tableCall (t .list) (t .weights) h blank blank)) where
+    printed : tablePrinted s ≡ summaryLines (callResult a p q) h
     unfolding tablePrinted
     printed = rw (← is, eq-eqb (t .refusal .number) 0 read, ← horizon, ← run)
 
     pub table-refused : (x : Refusal) → a ≡ SummaryAnswer.Refused x → report (Refused x) out ≡ reportOf (tablePrinted s) out
-    table-refused x e = as-refused x out (printed ∙ ap (λ (y : SummaryAnswer). linesOf (summaryResult y p q) h) e)
+    table-refused x e = as-refused x out (printed ∙ ap (λ (y : SummaryAnswer). summaryLines (callResult y p q) h) e)
 
     pub table-written : (f : Summary) → a ≡ SummaryAnswer.Accepted f → (out′ : List ℕ) (r : ℕ)
         → Wrote out 0 out′ r (tableBytes f h p q)
         → report (Written r) out′ ≡ reportOf (tablePrinted s) out
-    table-written f e out′ r w = as-written out out′ r (printed ∙ ap (λ (y : SummaryAnswer). linesOf (summaryResult y p q) h) e) w
+    table-written f e out′ r w = as-written out out′ r (printed ∙ ap (λ (y : SummaryAnswer). summaryLines (callResult y p q) h) e) w

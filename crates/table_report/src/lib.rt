@@ -2,7 +2,7 @@
 use summary::SummaryAnswer;
 use summary::table_summary;
 use table_lines::MAX_ROWS;
-use write::put_refused;
+use write::put_answer;
 ghost use mathlib.Core.Path.{_≡_};
 ghost use Rattle.write.specs.Printed.{report, reportOf, printedBytes, OutputIs};
 ghost use Rattle.table_report.specs.TableReport.{tablePrinted, reportHorizon};
@@ -48,8 +48,5 @@ pub fn table_output(text: &[u8], out: &mut [u8; TABLE_SIZE]) -> usize
     ensures { λ n. ⌜ OutputIs (now (out .entry)) (now (out .exit)) n (printedBytes (tablePrinted (now (text .entry)))) ⌝ }
 {
     let answer = table_report(text, out);
-    match answer {
-        ReportAnswer::Written(n) => n,
-        ReportAnswer::Refused(refusal) => put_refused(out, 0, refusal),
-    }
+    put_answer(out, answer)
 }

@@ -3,11 +3,11 @@ use Prim.Native.Nat.{ℕ}
 use mathlib.Core.List.{List, [], _∷_}
 use Rattle.rules.specs.declared.Rule.{Rule}
 use Rattle.rules.specs.Bounds.{zoneCount}
-use Rattle.grammar.specs.Row.{number}
-use Rattle.grammar.specs.Numbers.{numbers, numbersRow}
+use Rattle.grammar.specs.LineValues.{number}
+use Rattle.grammar.specs.NumberFields.{numbers, numberValues}
 use Rattle.grammar.specs.Form.{Kind, named}
 use Rattle.grammar.specs.Grammar.{Grammar, one, many, Contents}
-use Rattle.rule_lines.specs.Rules.{ruleLine, ruleRows}
+use Rattle.rule_lines.specs.Rules.{ruleLine, ruleValues}
 
 -- `weights`, and a number for each zone
 abbrev pub weightsWord : List ℕ
@@ -28,4 +28,4 @@ abbrev pub tableGrammar : Grammar
 tableGrammar = one weightsLine ∷ many ruleLine ∷ one horizonLine ∷ []
 
 abbrev pub tableContents : List ℕ → List Rule → ℕ → Contents tableGrammar
-tableContents w rs h = (numbersRow zoneCount w, (ruleRows rs, ((h, tt), tt)))
+tableContents w rs h = (numberValues zoneCount w, (ruleValues rs, ((h, tt), tt)))

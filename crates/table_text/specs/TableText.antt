@@ -6,9 +6,9 @@ use Rattle.rules.specs.declared.Rule.{Rule}
 use Rattle.rules.specs.declared.refusal.Refusal.{Refusal}
 use Rattle.rules.specs.Bounds.{zoneCount}
 use Rattle.rules.specs.Refusal.{notRefused, badLine, tooLong}
-use Rattle.grammar.specs.Numbers.{numbersIn}
+use Rattle.grammar.specs.NumberFields.{numbersIn}
 use Rattle.grammar.specs.Grammar.{Contents}
-use Rattle.grammar.specs.Reading.{Reading, read, stopped, long, readText}
+use Rattle.grammar.specs.TextReading.{Reading, read, stopped, long, readText}
 use Rattle.rule_lines.specs.Rules.{rulesSaid, ruleListOf}
 use Rattle.table_text.specs.declared.TableText.{TableText}
 use Rattle.table_text.specs.TableGrammar.{tableGrammar}

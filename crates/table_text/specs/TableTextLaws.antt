@@ -9,18 +9,18 @@ use Rattle.rules.specs.declared.RuleList.{RuleList}
 use Rattle.rules.specs.Bounds.{zoneCount}
 use Rattle.rules.specs.Refusal.{notRefused, badLine, tooLong}
 use Rattle.decimal.specs.declared.word.Found.the-variants.{At, Absent}
-use Rattle.grammar.specs.Row.{number}
-use Rattle.grammar.specs.Numbers.{numbers, numbersIn}
-use Rattle.grammar.specs.NumbersLaws.{numbers-length}
+use Rattle.grammar.specs.LineValues.{number}
+use Rattle.grammar.specs.NumberFields.{numbers, numbersIn}
+use Rattle.grammar.specs.NumberFieldsLaws.{numbers-length}
 use Rattle.grammar.specs.Form.{Says, line}
 use Rattle.grammar.specs.Grammar.{one, many, Contents}
 use Rattle.grammar.specs.Clear.{Clear}
 use Rattle.grammar.specs.Size.{maxText}
-use Rattle.grammar.specs.Reading.{found, other, seen, manyAt, afterMany}
-use Rattle.grammar.specs.Reading.{Reading, read, stopped, long, also, readAt, readText}
-use Rattle.grammar.specs.StepLaws.{read-line, read-other, read-many, read-end, read-more, other-word}
+use Rattle.grammar.specs.TextReading.{found, other, seen, manyAt, afterMany}
+use Rattle.grammar.specs.TextReading.{Reading, read, stopped, long, also, readAt, readText}
+use Rattle.grammar.specs.BlockLaws.{read-line, read-other, read-many, read-end, read-more, other-word}
 use Rattle.text.specs.declared.lines.LineRead.{LineRead}
-use Rattle.text.specs.LineRead.{mostFields, placesOf, codes, lineReadAt}
+use Rattle.text.specs.LineRead.{mostFields, slotsOf, codes, lineReadAt}
 use Rattle.text.specs.LineReadLaws.{SeenLine, line-seen, line-none, codes-numbers, places-full}
 use Rattle.rule_lines.specs.declared.rule_lines.RulesRead.{RulesRead}
 use Rattle.rule_lines.specs.Rules.{ruleWord, ruleLine, rulesSaid, ruleListOf, rulesRead}
@@ -61,29 +61,29 @@ module _ (s : List ℕ) (short : length s ≤ maxText) {f : LineRead} (fe : f �
     w : SeenLine weightsWord (numbers zoneCount) s 0 f at
     w = line-seen weightsWord (numbers zoneCount) s 0 fe q
 
-    weights-are : f .values ≡ numbersIn zoneCount (w .row)
+    weights-are : f .values ≡ numbersIn zoneCount (w .vs)
     weights-are =
-        w .values ∙ ap (placesOf mostFields) (codes-numbers zoneCount (w .row))
-        ∙ places-full mostFields (numbersIn zoneCount (w .row)) (numbers-length zoneCount (w .row))
+        w .values ∙ ap (slotsOf mostFields) (codes-numbers zoneCount (w .vs))
+        ∙ places-full mostFields (numbersIn zoneCount (w .vs)) (numbers-length zoneCount (w .vs))
 
-    rows : List (Says ruleLine)
-    rows = manyAt (line ruleLine) (length s) s at
+    vss : List (Says ruleLine)
+    vss = manyAt (line ruleLine) (length s) s at
 
-    behind : readText tableGrammar s ≡ also (w .row) (also rows (readAt (one horizonLine ∷ []) s (r .next) (r .line)))
-    unfolding readText rows
+    behind : readText tableGrammar s ≡ also (w .vs) (also vss (readAt (one horizonLine ∷ []) s (r .next) (r .line)))
+    unfolding readText vss
     behind =
-        let m : readAt (many ruleLine ∷ one horizonLine ∷ []) s at 2 ≡ also rows (readAt (one horizonLine ∷ []) s (r .next) (r .line)) =
-        rw (read-line-number s at 2 re) (read-many (line ruleLine) (one horizonLine ∷ []) s at 2 rows (r .next) refl (sym (read-next s at 2 re))) in
+        let m : readAt (many ruleLine ∷ one horizonLine ∷ []) s at 2 ≡ also vss (readAt (one horizonLine ∷ []) s (r .next) (r .line)) =
+        rw (read-line-number s at 2 re) (read-many (line ruleLine) (one horizonLine ∷ []) s at 2 vss (r .next) refl (sym (read-next s at 2 re))) in
         rw (le-leb (length s) maxText short)
         (read-line (line weightsLine) (many ruleLine ∷ one horizonLine ∷ []) s 0 1 (w .is)
-        ∙ ap (λ (y : Reading (Contents (many ruleLine ∷ one horizonLine ∷ []))). also (w .row) y) m)
+        ∙ ap (λ (y : Reading (Contents (many ruleLine ∷ one horizonLine ∷ []))). also (w .vs) y) m)
 
     -- another line where the horizon should be
     not-last : seen (line horizonLine) s (r .next) ≡ other → refusedTable (badLine (r .line)) ≡ tableText s
     unfolding tableGiven
     not-last n =
         of-reading s
-        (behind ∙ ap (λ (y : Reading (Contents (one horizonLine ∷ []))). also (w .row) (also rows y)) (read-other (line horizonLine) [] s (r .next) (r .line) n))
+        (behind ∙ ap (λ (y : Reading (Contents (one horizonLine ∷ []))). also (w .vs) (also vss y)) (read-other (line horizonLine) [] s (r .next) (r .line) n))
 
     pub bad-rule : (r .refusal .number ≡ 0 → ⊥) → refusedTable (r .refusal) ≡ tableText s
     bad-rule n =
@@ -98,25 +98,25 @@ module _ (s : List ℕ) (short : length s ≤ maxText) {f : LineRead} (fe : f �
         x : SeenLine horizonWord (number ∷ []) s (r .next) l end
         x = line-seen horizonWord (number ∷ []) s (r .next) le n
 
-        behind-last : readText tableGrammar s ≡ also (w .row) (also rows (also (x .row) (readAt [] s end (r .line + 1))))
+        behind-last : readText tableGrammar s ≡ also (w .vs) (also vss (also (x .vs) (readAt [] s end (r .line + 1))))
         behind-last =
-            behind ∙ ap (λ (y : Reading (Contents (one horizonLine ∷ []))). also (w .row) (also rows y))
+            behind ∙ ap (λ (y : Reading (Contents (one horizonLine ∷ []))). also (w .vs) (also vss y))
             (read-line (line horizonLine) [] s (r .next) (r .line) (x .is))
 
         pub goes-on : end < length s → refusedTable (badLine (r .line + 1)) ≡ tableText s
         unfolding tableGiven
         goes-on m =
             of-reading s
-            (behind-last ∙ ap (λ (y : Reading (Unit {0})). also (w .row) (also rows (also (x .row) y))) (read-more s end (r .line + 1) m))
+            (behind-last ∙ ap (λ (y : Reading (Unit {0})). also (w .vs) (also vss (also (x .vs) y))) (read-more s end (r .line + 1) m))
 
-        horizon-is : getD (l .values) 0 0 ≡ x .row .0
-        unfolding placesOf codes
+        horizon-is : getD (l .values) 0 0 ≡ x .vs .0
+        unfolding slotsOf codes
         horizon-is = ap (λ (v : List ℕ). getD v 0 0) (x .values)
 
         pub whole : length s ≤ end
             → _≡_ {A = TableText} (record { refusal = notRefused; weights = f .values; list = r .list; horizon = getD (l .values) 0 0 }) (tableText s)
-        unfolding tableGiven readTable given rows
+        unfolding tableGiven readTable given vss
         whole m =
             (λ i. given (weights-are i) (read-list s at 2 re i) (horizon-is i))
             ∙ of-reading s
-            (behind-last ∙ ap (λ (y : Reading (Unit {0})). also (w .row) (also rows (also (x .row) y))) (read-end s end (r .line + 1) m))
+            (behind-last ∙ ap (λ (y : Reading (Unit {0})). also (w .vs) (also vss (also (x .vs) y))) (read-end s end (r .line + 1) m))

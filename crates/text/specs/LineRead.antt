@@ -9,8 +9,8 @@ use Rattle.decimal.specs.declared.word.Found.the-variants.{At, Absent}
 use Rattle.decimal.specs.Word.{newline, wordAt, onFound}
 use Rattle.decimal.specs.Number.{fieldAt, onNumber}
 use Rattle.decimal.specs.Signed.{signedFieldAt, raised, raisedOf}
-use Rattle.grammar.specs.Row.{Field, number, signed, Value, Row}
-use Rattle.grammar.specs.Reading.{Seen, found, other, rowAt}
+use Rattle.grammar.specs.LineValues.{Field, number, signed, Value, Values}
+use Rattle.grammar.specs.TextReading.{Seen, found, other, valuesAt}
 use Rattle.text.specs.declared.lines.LineRead.{LineRead}
 
 -- the most fields of a line
@@ -30,30 +30,30 @@ abbrev pub code : (f : Field) → Value f → ℕ
 code number n = n
 code signed x = raised x
 
-unfoldable pub codes : (fs : List Field) → Row fs → List ℕ
+unfoldable pub codes : (fs : List Field) → Values fs → List ℕ
 codes [] x = []
 codes (f ∷ fs) x = code f (x .0) ∷ codes fs (x .1)
 
 -- n places with the first numbers of a list, filled up with 0
-unfoldable pub placesOf : ℕ → List ℕ → List ℕ
-placesOf zero l = []
-placesOf (suc n) [] = 0 ∷ placesOf n []
-placesOf (suc n) (x ∷ l) = x ∷ placesOf n l
+unfoldable pub slotsOf : ℕ → List ℕ → List ℕ
+slotsOf zero l = []
+slotsOf (suc n) [] = 0 ∷ slotsOf n []
+slotsOf (suc n) (x ∷ l) = x ∷ slotsOf n l
 
 abbrev pub lineRead : Found → List ℕ → LineRead
-lineRead next values = record { next = next; values = placesOf mostFields values }
+lineRead next values = record { next = next; values = slotsOf mostFields values }
 
 abbrev pub noLine : LineRead
 noLine = lineRead Absent []
 
 -- what is given of what is seen
-abbrev pub lineOf : (fs : List Field) → Seen (Row fs) → LineRead
+abbrev pub lineOf : (fs : List Field) → Seen (Values fs) → LineRead
 lineOf fs (found x next) = lineRead (At next) (codes fs x)
 lineOf fs other = noLine
 
 -- the line at an offset, where one of the word with these fields is asked for
 unfoldable pub lineReadAt : List ℕ → List Field → List ℕ → ℕ → LineRead
-lineReadAt word fs s at = lineOf fs (rowAt word fs s at)
+lineReadAt word fs s at = lineOf fs (valuesAt word fs s at)
 
 -- ---- field by field
 

@@ -13,13 +13,13 @@ use Rattle.decimal.specs.declared.word.Found.the-variants.{At, Absent}
 use Rattle.decimal.specs.Word.{newline, wordAt, onFound}
 use Rattle.decimal.specs.Number.{fieldAt, onNumber}
 use Rattle.decimal.specs.Signed.{Signed, Whole, NoSigned, signedFieldAt, onSigned, raised, raisedOf}
-use Rattle.grammar.specs.Row.{Field, number, signed, Value, Row, RowFits}
-use Rattle.grammar.specs.Numbers.{numbers, numbersIn}
+use Rattle.grammar.specs.LineValues.{Field, number, signed, Value, Values, ValuesFit}
+use Rattle.grammar.specs.NumberFields.{numbers, numbersIn}
 use Rattle.grammar.specs.Form.{named, line}
-use Rattle.grammar.specs.Reading.{Seen, found, other, onSeen, valueAt, rowFrom, rowAt, seenKind, seen}
+use Rattle.grammar.specs.TextReading.{Seen, found, other, onSeen, valueAt, valuesFrom, valuesAt, seenKind, seen}
 use Rattle.grammar.specs.FormLaws.{seen-fits}
 use Rattle.text.specs.declared.lines.LineRead.{LineRead}
-use Rattle.text.specs.LineRead.{mostFields, fieldOf, fieldsOf, code, codes, placesOf, lineRead, noLine, lineOf, lineReadAt, codeAt, codesFrom}
+use Rattle.text.specs.LineRead.{mostFields, fieldOf, fieldsOf, code, codes, slotsOf, lineRead, noLine, lineOf, lineReadAt, codeAt, codesFrom}
 
 -- ---- one field, and all of them
 
@@ -41,12 +41,12 @@ code-seen signed s p = go (signedFieldAt s p)
     go NoSigned = refl
 
 -- behind the values w
-abbrev behind : List ℕ → (fs : List Field) → Seen (Row fs) → LineRead
+abbrev behind : List ℕ → (fs : List Field) → Seen (Values fs) → LineRead
 behind w fs (found x next) = lineRead (At next) (w ++ codes fs x)
 behind w fs other = noLine
 
-codes-seen : (fs : List Field) (s : List ℕ) (p : ℕ) (w : List ℕ) → codesFrom fs s p w ≡ behind w fs (rowFrom fs s p)
-unfolding codesFrom rowFrom codes
+codes-seen : (fs : List Field) (s : List ℕ) (p : ℕ) (w : List ℕ) → codesFrom fs s p w ≡ behind w fs (valuesFrom fs s p)
+unfolding codesFrom valuesFrom codes
 codes-seen [] s p w = go (wordAt newline s p)
   where
     go : (x : Found) → onFound x (λ next. lineRead (At next) w) noLine ≡ behind w [] (onFound x (λ next. found tt next) other)
@@ -54,30 +54,30 @@ codes-seen [] s p w = go (wordAt newline s p)
     go Absent = refl
 codes-seen (f ∷ fs) s p w = rw (code-seen f s p) (go (valueAt f s p) (λ x e. codes-seen fs s e (w ++ (x ∷ []))))
   where
-    more : (x : Value f) (y : Seen (Row fs))
+    more : (x : Value f) (y : Seen (Values fs))
         → behind (w ++ (code f x ∷ [])) fs y ≡ behind w (f ∷ fs) (onSeen y (λ xs next. found (x, xs) next) other)
     more x (found xs next) = rw (append-snoc w (code f x) (codes fs xs))
     more x other = refl
 
     go : (y : Seen (Value f))
-        → ((x e : ℕ) → codesFrom fs s e (w ++ (x ∷ [])) ≡ behind (w ++ (x ∷ [])) fs (rowFrom fs s e))
+        → ((x e : ℕ) → codesFrom fs s e (w ++ (x ∷ [])) ≡ behind (w ++ (x ∷ [])) fs (valuesFrom fs s e))
         → onNumber (valueCode f y) (λ x e. codesFrom fs s e (w ++ (x ∷ []))) noLine
-        ≡ behind w (f ∷ fs) (onSeen y (λ x e. onSeen (rowFrom fs s e) (λ xs next. found (x, xs) next) other) other)
-    go (found x e) ih = ih (code f x) e ∙ more x (rowFrom fs s e)
+        ≡ behind w (f ∷ fs) (onSeen y (λ x e. onSeen (valuesFrom fs s e) (λ xs next. found (x, xs) next) other) other)
+    go (found x e) ih = ih (code f x) e ∙ more x (valuesFrom fs s e)
     go other ih = refl
 
-behind-none : (fs : List Field) (y : Seen (Row fs)) → behind [] fs y ≡ lineOf fs y
+behind-none : (fs : List Field) (y : Seen (Values fs)) → behind [] fs y ≡ lineOf fs y
 behind-none fs (found x next) = refl
 behind-none fs other = refl
 
 module _ (w : List ℕ) (fs : List Field) (s : List ℕ) (at : ℕ) where
   -- the word, and what follows it
   pub line-word : (p : ℕ) → wordAt w s at ≡ At p → codesFrom fs s p [] ≡ lineReadAt w fs s at
-  unfolding rowAt lineReadAt
-  line-word p e = rw e (codes-seen fs s p [] ∙ behind-none fs (rowFrom fs s p))
+  unfolding valuesAt lineReadAt
+  line-word p e = rw e (codes-seen fs s p [] ∙ behind-none fs (valuesFrom fs s p))
 
   pub line-no-word : wordAt w s at ≡ Absent → noLine ≡ lineReadAt w fs s at
-  unfolding rowAt lineReadAt
+  unfolding valuesAt lineReadAt
   line-no-word e = rw e
 
 -- ---- the turns of the loop over the fields
@@ -104,8 +104,8 @@ clean-tail c = record { zero-at = λ j h. c .zero-at (suc j) (omega arith) }
 clean-all : {a : ℕ} {w : List ℕ} → Clean (a ∷ w) 0 → Clean w 0
 clean-all c = record { zero-at = λ j h. c .zero-at (suc j) (omega arith) }
 
-pub places-kept : (n i : ℕ) (w : List ℕ) → length w ≡ n → Clean w i → placesOf n (take i w) ≡ w
-unfolding placesOf
+pub places-kept : (n i : ℕ) (w : List ℕ) → length w ≡ n → Clean w i → slotsOf n (take i w) ≡ w
+unfolding slotsOf
 places-kept zero i [] e c = refl
 places-kept zero i (a ∷ w) e c = absurd (omega arith)
 places-kept (suc n) i [] e c = absurd (omega arith)
@@ -146,10 +146,10 @@ module _ (letters s : List ℕ) (p : ℕ) (w : List ℕ) (i : ℕ) (h : length l
 -- ---- what is seen, from what the parser gives
 
 pub record SeenLine (word : List ℕ) (fs : List Field) (s : List ℕ) (at : ℕ) (r : LineRead) (next : ℕ) : Type 0 where
-  pub row : Row fs
-  pub is : seen (line (named word fs)) s at ≡ found row next
-  pub fits : RowFits fs row
-  pub values : r .values ≡ placesOf mostFields (codes fs row)
+  pub vs : Values fs
+  pub is : seen (line (named word fs)) s at ≡ found vs next
+  pub fits : ValuesFit fs vs
+  pub values : r .values ≡ slotsOf mostFields (codes fs vs)
 
 abbrev nextIn : Found → ℕ
 nextIn (At n) = n
@@ -158,31 +158,31 @@ nextIn Absent = 0
 module _ (word : List ℕ) (fs : List Field) (s : List ℕ) (at : ℕ) {r : LineRead} (e : r ≡ lineReadAt word fs s at) where
   pub line-seen : {next : ℕ} → r .next ≡ At next → SeenLine word fs s at r next
   unfolding lineReadAt seen seenKind
-  line-seen {next} q = go (rowAt word fs s at) refl (sym (ap (λ (l : LineRead). l .next) e) ∙ q) (ap (λ (l : LineRead). l .values) e)
+  line-seen {next} q = go (valuesAt word fs s at) refl (sym (ap (λ (l : LineRead). l .next) e) ∙ q) (ap (λ (l : LineRead). l .values) e)
     where
-      go : (y : Seen (Row fs)) → rowAt word fs s at ≡ y → lineOf fs y .next ≡ At next → r .values ≡ lineOf fs y .values
+      go : (y : Seen (Values fs)) → valuesAt word fs s at ≡ y → lineOf fs y .next ≡ At next → r .values ≡ lineOf fs y .values
           → SeenLine word fs s at r next
       go (found x n) h p v =
           let seen-here : seen (line (named word fs)) s at ≡ found x next = h ∙ ap (λ (i : ℕ). found x i) (ap nextIn p) in
-          record { row = x; is = seen-here; fits = seen-fits word fs s at seen-here; values = v }
+          record { vs = x; is = seen-here; fits = seen-fits word fs s at seen-here; values = v }
       go other h p v = let z : _≡_ {A = ℕ} 0 1 = cc in absurd (omega arith)
 
   pub line-none : r .next ≡ Absent → seen (line (named word fs)) s at ≡ other
   unfolding lineReadAt seen seenKind
-  line-none q = go (rowAt word fs s at) refl (sym (ap (λ (l : LineRead). l .next) e) ∙ q)
+  line-none q = go (valuesAt word fs s at) refl (sym (ap (λ (l : LineRead). l .next) e) ∙ q)
     where
-      go : (y : Seen (Row fs)) → rowAt word fs s at ≡ y → lineOf fs y .next ≡ Absent → rowAt word fs s at ≡ other
+      go : (y : Seen (Values fs)) → valuesAt word fs s at ≡ y → lineOf fs y .next ≡ Absent → valuesAt word fs s at ≡ other
       go (found x n) h p = let z : _≡_ {A = ℕ} 0 1 = cc in absurd (omega arith)
       go other h p = h
 
 -- of fields that are all numbers
-pub codes-numbers : (n : ℕ) (x : Row (numbers n)) → codes (numbers n) x ≡ numbersIn n x
+pub codes-numbers : (n : ℕ) (x : Values (numbers n)) → codes (numbers n) x ≡ numbersIn n x
 unfolding codes numbersIn
 codes-numbers zero x = refl
 codes-numbers (suc n) x = ap (λ (l : List ℕ). x .0 ∷ l) (codes-numbers n (x .1))
 
-pub places-full : (n : ℕ) (l : List ℕ) → length l ≡ n → placesOf n l ≡ l
-unfolding placesOf
+pub places-full : (n : ℕ) (l : List ℕ) → length l ≡ n → slotsOf n l ≡ l
+unfolding slotsOf
 places-full zero [] e = refl
 places-full zero (x ∷ l) e = absurd (omega arith)
 places-full (suc n) [] e = absurd (omega arith)

@@ -1,4 +1,4 @@
 -- What the claims of the programs share: definitions and laws.
-pub mod NumberOnce
-pub mod LineOnce
-pub mod NumbersApart
+pub mod NumberOnceLaws
+pub mod LineOnceLaws
+pub mod NumbersApartLaws

@@ -1,6 +1,6 @@
 // Printing a bracket.
+use bracket::Bracket;
 use bracket::BracketAnswer;
-use bracket::Place;
 use bracket::percentile_bracket;
 use libc::STDOUT_FILENO;
 
@@ -13,17 +13,17 @@ fn between(low: u32, high: u32) {
     show::number(b" and ", high as u64);
 }
 
-fn place(p: Place) {
+fn bracket(p: Bracket) {
     match p {
-        Place::At(n) => show::number(b" at ", n as u64),
-        Place::Between { low, high } => between(low, high),
-        Place::Open(n) => show::number(b" open from ", n as u64),
-        Place::Beyond(n) => show::number(b" beyond ", n as u64),
+        Bracket::At(n) => show::number(b" at ", n as u64),
+        Bracket::Between { low, high } => between(low, high),
+        Bracket::Open(n) => show::number(b" open from ", n as u64),
+        Bracket::Beyond(n) => show::number(b" beyond ", n as u64),
     }
 }
 
-fn accepted(p: Place) {
-    place(p);
+fn accepted(p: Bracket) {
+    bracket(p);
     show::text(b"\n");
 }
 

@@ -4,10 +4,10 @@ use mathlib.Core.List.{List, [], _∷_}
 use lib.IntN.{ℤ, pos}
 use Rattle.rules.specs.declared.refusal.Refusal.{Refusal}
 use Rattle.rules.specs.Refusal.{notRefused, badLine, tooLong}
-use Rattle.grammar.specs.Row.{signed}
+use Rattle.grammar.specs.LineValues.{signed}
 use Rattle.grammar.specs.Form.{Kind, named}
 use Rattle.grammar.specs.Grammar.{Grammar, one, Contents}
-use Rattle.grammar.specs.Reading.{Reading, read, stopped, long, readText}
+use Rattle.grammar.specs.TextReading.{Reading, read, stopped, long, readText}
 use Rattle.weights_report.specs.declared.shifts.ShiftText.{ShiftText}
 
 -- `shift`, and a signed number

@@ -10,15 +10,15 @@ use Rattle.rules.specs.Refusal.{badLine, tooLong}
 use Rattle.decimal.specs.declared.word.Found.the-variants.{At, Absent}
 use Rattle.decimal.specs.Signed.{lowered}
 use Rattle.decimal.specs.SignedLaws.{lowered-raised}
-use Rattle.grammar.specs.Row.{signed, RowFits}
+use Rattle.grammar.specs.LineValues.{signed, ValuesFit}
 use Rattle.grammar.specs.Form.{line}
 use Rattle.grammar.specs.Grammar.{Contents}
 use Rattle.grammar.specs.Clear.{Clear}
 use Rattle.grammar.specs.Size.{maxText}
-use Rattle.grammar.specs.Reading.{Reading, stopped, long, also, readAt, readText}
-use Rattle.grammar.specs.StepLaws.{read-line, read-other, read-end, read-more}
+use Rattle.grammar.specs.TextReading.{Reading, stopped, long, also, readAt, readText}
+use Rattle.grammar.specs.BlockLaws.{read-line, read-other, read-end, read-more}
 use Rattle.text.specs.declared.lines.LineRead.{LineRead}
-use Rattle.text.specs.LineRead.{placesOf, codes, lineReadAt}
+use Rattle.text.specs.LineRead.{slotsOf, codes, lineReadAt}
 use Rattle.text.specs.LineReadLaws.{SeenLine, line-seen, line-none}
 use Rattle.weights_report.specs.ShiftText.{shiftWord, shiftLine, shiftGrammar, refusedShift, readShift, shiftBy, shiftText}
 
@@ -49,21 +49,21 @@ module _ (s : List ℕ) (short : length s ≤ maxText) {f : LineRead} (fe : f �
     x : SeenLine shiftWord (signed ∷ []) s 0 f end
     x = line-seen shiftWord (signed ∷ []) s 0 fe q
 
-    behind : readText shiftGrammar s ≡ also (x .row) (readAt [] s end 2)
+    behind : readText shiftGrammar s ≡ also (x .vs) (readAt [] s end 2)
     unfolding readText
     behind = rw (le-leb (length s) maxText short) (read-line (line shiftLine) [] s 0 1 (x .is))
 
     pub goes-on : end < length s → refusedShift (badLine 2) ≡ shiftText s
     unfolding shiftBy
-    goes-on m = of-reading s (behind ∙ ap (λ (y : Reading (Unit {0})). also (x .row) y) (read-more s end 2 m))
+    goes-on m = of-reading s (behind ∙ ap (λ (y : Reading (Unit {0})). also (x .vs) y) (read-more s end 2 m))
 
-    value-is : lowered (getD (f .values) 0 0) ≡ x .row .0
-    unfolding placesOf codes RowFits
+    value-is : lowered (getD (f .values) 0 0) ≡ x .vs .0
+    unfolding slotsOf codes ValuesFit
     value-is =
-        ap (λ (v : List ℕ). lowered (getD v 0 0)) (x .values) ∙ lowered-raised (x .row .0) (x .fits .0)
+        ap (λ (v : List ℕ). lowered (getD v 0 0)) (x .values) ∙ lowered-raised (x .vs .0) (x .fits .0)
 
     pub whole : {y : ℤ} → y ≡ lowered (getD (f .values) 0 0) → length s ≤ end → readShift y ≡ shiftText s
     unfolding shiftBy
     whole e m =
         ap readShift (e ∙ value-is)
-        ∙ of-reading s (behind ∙ ap (λ (y : Reading (Unit {0})). also (x .row) y) (read-end s end 2 m))
+        ∙ of-reading s (behind ∙ ap (λ (y : Reading (Unit {0})). also (x .vs) y) (read-end s end 2 m))

@@ -3,7 +3,7 @@ use crate::WEIGHTS_SIZE;
 use crate::shifts::shift_text;
 use shift::ShiftAnswer;
 use write::ReportAnswer;
-use write::put_refused;
+use write::put_answer;
 ghost use mathlib.Core.Path.{_≡_};
 ghost use Rattle.write.specs.Printed.{report, reportOf, printedBytes, OutputIs};
 ghost use Rattle.weights_report.specs.WeightsReport.{textWeights, weightsPrinted};
@@ -39,8 +39,5 @@ pub fn weights_output(text: &[u8], out: &mut [u8; WEIGHTS_SIZE]) -> usize
     ensures { λ n. ⌜ OutputIs (now (out .entry)) (now (out .exit)) n (printedBytes (weightsPrinted (now (text .entry)))) ⌝ }
 {
     let answer = weights_report(text, out);
-    match answer {
-        ReportAnswer::Written(n) => n,
-        ReportAnswer::Refused(r) => put_refused(out, 0, r),
-    }
+    put_answer(out, answer)
 }

@@ -20,8 +20,9 @@ use Rattle.window.specs.ForgetLaws.{live-again, hits-fewer, hits-no-olde
 use Rattle.window.specs.State.{emptyState, validState, holding, stateMask, nextState}
 use Rattle.window.specs.Settled.{CanBeGiven}
 use Rattle.window.specs.StateLaws.{window-small}
-use Rattle.window.specs.SettledLaws.{both}
-use Rattle.window.specs.RowLaws.{young, digit, digits, bit-zero, valid-of-row, empty-row-state, empty-row-mask}
+use Rattle.rules.specs.MaskLaws.{bit-zero}
+use Rattle.rules.specs.TestLaws.{both}
+use Rattle.window.specs.RowLaws.{young, digit, digits, valid-of-row, empty-row-state, empty-row-mask}
 
 -- ---- one rule
 

@@ -1,6 +1,6 @@
 -- TO BELIEVE: Document 01's plain chart, from its own paragraph alone: a row of zones, the newest first. Definitions.
 use Prim.Native.Nat.{ℕ, _+_}
-use mathlib.Core.Bool.{Bool, cond}
+use mathlib.Core.Bool.{Bool, true, false, cond}
 use mathlib.Core.List.{List, [], _∷_, map}
 use lib.Dec.{leb, ltb, eqb}
 use lib.ListN.{length, take}
@@ -15,6 +15,11 @@ pub data Answer : Type 0 where
   refused : ℕ → Answer
   quiet : ℕ → Answer
   signal : ℕ → ℕ → Answer
+
+abbrev pub isSignal : Answer → Bool
+isSignal (refused number) = false
+isSignal (quiet count) = false
+isSignal (signal count mask) = true
 
 -- how many of the zones are in the set
 unfoldable pub hitsAmong : ℕ → List ℕ → ℕ

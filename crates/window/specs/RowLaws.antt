@@ -1,6 +1,6 @@
 -- The state that a row of zones leads to, rule by rule: what a point does to it is what the reference chart says of the row.
 use mathlib.Core.Path.{_≡_, refl, sym, ap, _∙_}
-use mathlib.Core.Bool.{Bool, true, false}
+use mathlib.Core.Bool.{true, false}
 use mathlib.Core.Logic.{⊎-elim}
 use mathlib.Core.List.{List, [], _∷_, map}
 use Prim.Native.Nat.{ℕ, zero, suc, _+_, _-_, _*_, _/_, _%_, _^_, _≤_, _<_, min}
@@ -12,7 +12,8 @@ use lib.Dec.{leb}
 use borrow.Author.Tests.{lt-leb, leb-false, eq-eqb}
 use Rattle.rules.specs.declared.Rule.{Rule}
 use Rattle.rules.specs.InBounds.{InBounds, AllInBounds}
-use Rattle.rules.specs.Mask.{bit, maskOf}
+use Rattle.rules.specs.Mask.{maskOf}
+use Rattle.rules.specs.MaskLaws.{bit-zero}
 use Rattle.rules.specs.ZoneSet.{inZoneSet}
 use Rattle.window.specs.Window.{maxAge, windowBase, liveHit, live, hitsUpTo, nextWindow, windowHolds, validWindow}
 use Rattle.window.specs.WindowLaws.{le-or-lt, live-le, live-lt}
@@ -119,10 +120,6 @@ digit w x h = omega arith
 
 pub digits : (w x : ℕ) → w < windowBase → (w + windowBase * x) / windowBase ≡ x
 digits w x h = omega arith
-
-pub bit-zero : (t : Bool) (x : ℕ) → bit t + 2 * x ≡ 0 → (t ≡ false) × (x ≡ 0)
-bit-zero true x e = absurd (omega arith)
-bit-zero false x e = (refl, omega arith)
 
 -- on a row where no rule holds, the state can be given with the row's length: so no call gets 5
 pub valid-of-row : (rs : List Rule) → AllInBounds rs → (row : List ℕ) → rowMask rs row ≡ 0 → validState (length row) rs (stateOfRow rs row) ≡ true

@@ -12,6 +12,7 @@ use lib.Pow.{pow-pos}
 use borrow.Author.Tests.{le-leb, lt-leb, leb-false, eqb-true}
 use Rattle.rules.specs.declared.Rule.{Rule}
 use Rattle.rules.specs.InBounds.{InBounds}
+use Rattle.rules.specs.TestLaws.{both}
 use Rattle.rules.specs.Check.{noRule, rulesFrom}
 use Rattle.rules.specs.Mask.{bit}
 use Rattle.rules.specs.ZoneSet.{inZoneSet}
@@ -32,11 +33,6 @@ settled count r w e = go (leb (r .k) (hitsUpTo maxAge w)) refl (eqb (remembered 
     go false ex true ey q = record { few = leb-false (r .k) (hitsUpTo maxAge w) ex; kept = eqb-true (remembered r w) w ey }
     go true ex y ey q = let n : _≡_ {A = ℕ} 0 1 = cc in absurd (omega arith)
     go false ex false ey q = let n : _≡_ {A = ℕ} 0 1 = cc in absurd (omega arith)
-
--- where one test comes behind another, both passed
-pub both : (x y : Bool) → cond x y false ≡ true → (x ≡ true) × (y ≡ true)
-both true y e = (refl, e)
-both false y e = let n : _≡_ {A = ℕ} 0 1 = cc in absurd (omega arith)
 
 module _ (slots : List Rule) (n count s : ℕ) where
   valid-from : (i : ℕ) → i ≤ n → validState count (rulesFrom n 0 slots) s ≡ true → validState count (rulesFrom (n - i) i slots) (windowsFrom i s) ≡ true

@@ -14,7 +14,7 @@ use Rattle.rules.specs.declared.Rule.{Rule}
 use Rattle.rules.specs.Check.{noRule}
 use Rattle.window.specs.Window.{maxAge, windowBase, hitOfAge, hitsUpTo, remembered, validWindow}
 use Rattle.window.specs.State.{validState}
-use Rattle.window.specs.SettledLaws.{both}
+use Rattle.rules.specs.TestLaws.{both}
 use Rattle.window.specs.CanStand.{Kept, WindowCanStand, windowAt, StateCanStand}
 use Rattle.window.specs.WindowLaws.{le-or-lt, live-le, remembered-age}
 

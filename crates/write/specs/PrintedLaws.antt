@@ -1,5 +1,5 @@
 -- What is written stands in the buffer; and a report from what was written.
-use mathlib.Core.Path.{_≡_, sym, ap, _∙_}
+use mathlib.Core.Path.{_≡_, refl, sym, ap, _∙_}
 use mathlib.Core.List.{List, _++_}
 use Prim.Native.Nat.{ℕ, _+_, _≤_}
 use native.Mathlib.Omega.{arith}
@@ -10,6 +10,7 @@ use Rattle.write.specs.Wrote.{Wrote}
 use Rattle.write.specs.declared.ReportAnswer.{ReportAnswer}
 use Rattle.write.specs.declared.ReportAnswer.the-variants.{Written, Refused}
 use Rattle.write.specs.Refused.{refusedLine}
+use Rattle.write.specs.AnswerStands.{AnswerStands}
 use Rattle.write.specs.Printed.{Printed, lines, refusedBy, printedBytes, OutputIs, Report, report, reportOf}
 
 -- a refusal, or the lines and where they end
@@ -30,35 +31,33 @@ output-is {before} {after} {n} {bytes} c b =
     let w : n ≤ length after = omega (arith, ap length b, length-append bytes (drop n before)) in
     record { count = c; buffer = b; within = w; front = sym (length-take-le n after w) }
 
-module _ (p : Printed) {out out′ : List ℕ} {a : ReportAnswer} (e : report a out′ ≡ reportOf p out) where
-  pub output-written : {n : ℕ} → a ≡ Written n → OutputIs out out′ n (printedBytes p)
-  unfolding printedBytes
-  output-written {n} q = go p e
-    where
-      go : (p : Printed) → report a out′ ≡ reportOf p out → OutputIs out out′ n (printedBytes p)
-      go (lines bytes) e =
-          let answer : a ≡ Written (length bytes) = ap (λ (r : Report). r .answer) e in
-          let count : n ≡ length bytes = cc in
-          output-is count (rw count (ap (λ (r : Report). r .buffer) e))
-      go (refusedBy x) e =
-          let answer : a ≡ Refused x = ap (λ (r : Report). r .answer) e in
-          let z : _≡_ {A = ℕ} 0 1 = cc in
-          absurd (omega arith)
+-- the answer, case by case
+pub stands-written : {a : ReportAnswer} {n : ℕ} (out : List ℕ) → a ≡ Written n → AnswerStands a out out n
+stands-written out e = rw e (refl, refl)
 
-  pub output-refused : {x : Refusal} {out″ : List ℕ} {r : ℕ} → a ≡ Refused x → Wrote out′ 0 out″ r (refusedLine (x .number) (x .place))
-      → OutputIs out out″ r (printedBytes p)
-  unfolding printedBytes
-  output-refused {x} {out″} {r} q w = go p e
-    where
-      go : (p : Printed) → report a out′ ≡ reportOf p out → OutputIs out out″ r (printedBytes p)
-      go (refusedBy y) e =
-          let answer : a ≡ Refused y = ap (λ (r : Report). r .answer) e in
-          let same : x ≡ y = cc in
-          let kept : out′ ≡ out = ap (λ (r : Report). r .buffer) e in
-          let count : r ≡ length (refusedLine (x .number) (x .place)) = omega (arith, w .end) in
-          let end : 0 + length (refusedLine (x .number) (x .place)) ≡ r = omega arith in
-          rw (← same) (output-is count (rw (← kept) (rw end at (w .whole))))
-      go (lines bytes) e =
-          let answer : a ≡ Written (length bytes) = ap (λ (r : Report). r .answer) e in
-          let z : _≡_ {A = ℕ} 0 1 = cc in
-          absurd (omega arith)
+pub stands-refused : {a : ReportAnswer} {x : Refusal} {out out′ : List ℕ} {r : ℕ} → a ≡ Refused x → Wrote out 0 out′ r (refusedLine (x .number) (x .place))
+    → AnswerStands a out out′ r
+stands-refused e w = rw e w
+
+pub output-by : (p : Printed) {out out′ out″ : List ℕ} {r : ℕ} (a : ReportAnswer) → report a out′ ≡ reportOf p out → AnswerStands a out′ out″ r
+    → OutputIs out out″ r (printedBytes p)
+unfolding printedBytes
+output-by (lines bytes) {out} {out′} {out″} {r} (Written n) e s =
+    let answer : Written n ≡ Written (length bytes) = ap (λ (x : Report). x .answer) e in
+    let count : r ≡ length bytes = cc (s .0) in
+    output-is count (s .1 ∙ rw count (ap (λ (x : Report). x .buffer) e))
+output-by (lines bytes) (Refused x) e s =
+    let answer : Refused x ≡ Written (length bytes) = ap (λ (y : Report). y .answer) e in
+    let z : _≡_ {A = ℕ} 0 1 = cc in
+    absurd (omega arith)
+output-by (refusedBy y) (Written n) e s =
+    let answer : Written n ≡ Refused y = ap (λ (x : Report). x .answer) e in
+    let z : _≡_ {A = ℕ} 0 1 = cc in
+    absurd (omega arith)
+output-by (refusedBy y) {out} {out′} {out″} {r} (Refused x) e s =
+    let answer : Refused x ≡ Refused y = ap (λ (z : Report). z .answer) e in
+    let same : x ≡ y = cc in
+    let kept : out′ ≡ out = ap (λ (z : Report). z .buffer) e in
+    let count : r ≡ length (refusedLine (x .number) (x .place)) = omega (arith, s .end) in
+    let end : 0 + length (refusedLine (x .number) (x .place)) ≡ r = omega arith in
+    rw (← same) (output-is count (rw (← kept) (rw end at (s .whole))))

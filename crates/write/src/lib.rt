@@ -12,6 +12,7 @@ pub use put::put_byte;
 pub use put::put_bytes;
 pub use put::put_number;
 pub use put::put_short;
+pub use refused::put_answer;
 pub use refused::put_refused;
 use rules::Refusal;
 

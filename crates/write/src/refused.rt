@@ -1,4 +1,5 @@
-// The line of a refused text.
+// The line of a refused text, and all that a program writes: what its report wrote, or that line.
+use crate::ReportAnswer;
 use crate::field::put_short_field;
 use crate::field::put_short_named;
 use crate::put_byte;
@@ -7,6 +8,7 @@ ghost use Prim.Native.Nat.{_+_, _≤_};
 ghost use lib.ListN.{length};
 ghost use Rattle.write.specs.Wrote.{Wrote};
 ghost use Rattle.write.specs.Refused.{refusedLine, refusedRoom};
+ghost use Rattle.write.specs.AnswerStands.{AnswerStands};
 
 // The line `refused,number,place`.
 pub fn put_refused(out: &mut [u8], at: usize, refusal: Refusal) -> usize
@@ -17,4 +19,15 @@ pub fn put_refused(out: &mut [u8], at: usize, refusal: Refusal) -> usize
     let a = put_short_named(out, at, b"refused", refusal.number);
     let b = put_short_field(out, a, refusal.place);
     put_byte(out, b, b'\n')
+}
+
+// A report's answer: its lines stand in the buffer already, a refusal's line is written to its start.
+pub fn put_answer(out: &mut [u8], answer: ReportAnswer) -> usize
+    requires { ⌜ refusedRoom ≤ length (now out) ⌝ }
+    ensures { λ r. ⌜ AnswerStands answer (now (out .entry)) (now (out .exit)) r ⌝ }
+{
+    match answer {
+        ReportAnswer::Written(n) => n,
+        ReportAnswer::Refused(refusal) => put_refused(out, 0, refusal),
+    }
 }

@@ -1,4 +1,4 @@
--- `percentile_bracket` meets its contract: each refusal by the tests that lead to it, and the place of a call that none applies to.
+-- `percentile_bracket` meets its contract: each refusal by the tests that lead to it, and the bracket of a call that none applies to.
 use mathlib.Core.Path.{_≡_, sym, ap, _∙_}
 use native.Mathlib.Omega.{arith}
 use lib.ListN.{length}
@@ -88,8 +88,8 @@ returns-7 c =
     ∙ sym (refused-total pmf (a .state-count) (a .percent) (omega arith) (omega arith) (omega arith) (omega arith) (omega arith) (omega arith)
     (sym (c .before .before .sum-fits .ensures) ∙ not-true (c .before .before .sum-fits .result) (c .before .if7 .taken)))
 
-percentile-place-requires : tie.Need-percentile-place-requires
-percentile-place-requires c κs =
+find-bracket-requires : tie.Need-find-bracket-requires
+find-bracket-requires c κs =
     let pmf = c .before .before .before .before .before .before .before .before .before .args .pmf .now in
     record {
       not-empty = omega arith;
@@ -105,7 +105,7 @@ returns-8 : tie.Need-returns-8
 returns-8 c =
     let a = c .before .before .before .before .before .before .before .before .before .before .args in
     let pmf = a .pmf .now in
-    ap Accepted (c .percentile-place .ensures)
+    ap Accepted (c .find-bracket .ensures)
     ∙ sym (accepted-bracket pmf (a .state-count) (a .percent) (record {
       not-empty = omega arith;
       short = omega arith;
@@ -135,5 +135,5 @@ percentile-bracket-spec =
     sum-fits-requires
     refused-requires-7
     returns-7
-    percentile-place-requires
+    find-bracket-requires
     returns-8)

@@ -12,7 +12,8 @@ use mir.Val.{Fits, SFits, toZ, ofZ}
 use mir.ValLaws.{toZ-ofZ}
 use Rattle.shift.specs.declared.ShiftAnswer.the-variants.{Accepted}
 use Rattle.shift.specs.Shift.{maxShift, weightsOf}
-use Rattle.shift.specs.ShiftLaws.{in-bounds, shift-accepted, shift-refused}
+use Rattle.shift.specs.ShiftLaws.{in-bounds}
+use Rattle.shift.specs.ShiftedWeights.{shift-accepted, shift-refused}
 use Rattle.shift.proofs.shift_weights.Statement.{statement}
 use Rattle.shift.proofs.shift_weights.Tie as tie
 

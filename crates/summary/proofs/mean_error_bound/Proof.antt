@@ -1,6 +1,6 @@
 -- `summary::mean_error_bound` meets its contract: no product leaves 64 bits.
 use native.Mathlib.Omega.{arith}
-use Rattle.summary.specs.ErrorBound.{product-most, products-most}
+use Rattle.summary.specs.ErrorBoundLaws.{product-most, products-most}
 use borrow.Author.Needs.{needs}
 use Rattle.summary.proofs.mean_error_bound.Statement.{statement}
 use Rattle.summary.proofs.mean_error_bound.Tie as tie

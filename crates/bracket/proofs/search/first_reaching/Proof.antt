@@ -3,8 +3,8 @@ use mathlib.Core.Path.{sym}
 use Prim.Native.Nat.{_-_}
 use native.Mathlib.Omega.{arith}
 use lib.ListN.{length}
-use Rattle.bracket.specs.Reached.{Searched}
-use Rattle.bracket.specs.ReachedLaws.{searched-start, next-room, searched-here, searched-on, searched-end}
+use Rattle.bracket.specs.Crossing.{Searched}
+use Rattle.bracket.specs.CrossingLaws.{searched-start, next-room, searched-here, searched-on, searched-end}
 use borrow.Author.Needs.{needs}
 use Rattle.bracket.proofs.search.first_reaching.Statement.{statement}
 use Rattle.bracket.proofs.search.first_reaching.Tie as tie

@@ -3,7 +3,7 @@ use mathlib.Core.Path.{_∙_}
 use native.Mathlib.Omega.{arith}
 use lib.ListN.{length}
 use borrow.Author.Needs.{needs}
-use Rattle.bracket.specs.ReachedLaws.{search-low}
+use Rattle.bracket.specs.CrossingLaws.{search-low}
 use Rattle.bracket.proofs.search.lower.Statement.{statement}
 use Rattle.bracket.proofs.search.lower.Tie as tie
 

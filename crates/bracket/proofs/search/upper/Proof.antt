@@ -3,7 +3,7 @@ use mathlib.Core.Path.{_∙_}
 use native.Mathlib.Omega.{arith}
 use lib.ListN.{length}
 use borrow.Author.Needs.{needs}
-use Rattle.bracket.specs.ReachedLaws.{search-high}
+use Rattle.bracket.specs.CrossingLaws.{search-high}
 use Rattle.bracket.proofs.search.upper.Statement.{statement}
 use Rattle.bracket.proofs.search.upper.Tie as tie
 

@@ -1,4 +1,4 @@
--- `capi::catrovindy_bracket` meets its contract: the bracket's refusal, or its place.
+-- `capi::catrovindy_bracket` meets its contract: the bracket's refusal, or its bracket.
 use mathlib.Core.Path.{refl}
 use Rattle.capi.specs.BracketCallLaws.{bracket-call}
 use borrow.Author.Needs.{needs}
@@ -17,8 +17,8 @@ code-requires c κs = search needs
 enum-known-found-2 : tie.Need-enum-known-found-2
 enum-known-found-2 c = search needs
 
-write-place-requires : tie.Need-write-place-requires
-write-place-requires c κs = search needs
+write-bracket-requires : tie.Need-write-bracket-requires
+write-bracket-requires c κs = search needs
 
 returns : tie.Need-returns
 returns c =
@@ -30,7 +30,7 @@ returns-2 : tie.Need-returns-2
 returns-2 c =
     let a = c .before .before .before .before .before .before .before .args in
     bracket-call (a .pmf .now) (a .state-count) (a .percent) (a .answer .now) _ _ (c .before .before .before .before .before .percentile-bracket .result) _
-    (c .before .before .before .before .before .percentile-bracket .ensures) (c .before .before .before .found2 .given .1) refl (c .write-place .ensures)
+    (c .before .before .before .before .before .percentile-bracket .ensures) (c .before .before .before .found2 .given .1) refl (c .write-bracket .ensures)
 
 pub catrovindy-bracket-spec : {M : Type 1} → statement M
 catrovindy-bracket-spec =
@@ -40,6 +40,6 @@ catrovindy-bracket-spec =
     enum-known-found
     code-requires
     enum-known-found-2
-    write-place-requires
+    write-bracket-requires
     returns
     returns-2)

@@ -5,7 +5,7 @@ use borrow.Author.Needs.{needs}
 use Rattle.rules.specs.Check.{checkOf}
 use Rattle.rules.specs.CheckLaws.{is-accepted}
 use Rattle.rules.proofs.Checked.{the-type}
-use Rattle.capi.specs.ListCall.{checkCode}
+use Rattle.codes.specs.Codes.{checkCode}
 use Rattle.capi.proofs.lists.catrovindy_check.Statement.{statement}
 use Rattle.capi.proofs.lists.catrovindy_check.Tie as tie
 

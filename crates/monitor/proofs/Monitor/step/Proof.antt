@@ -5,6 +5,7 @@ use borrow.Author.Needs.{needs}
 use Rattle.rules.specs.CheckLaws.{accepted, is-accepted}
 use Rattle.rules.proofs.Checked.{the-type}
 use Rattle.monitor.specs.Step.{stepOf}
+use Rattle.monitor.specs.StepLaws.{rules-accepted}
 use Rattle.monitor.proofs.Monitor.step.Statement.{statement}
 use Rattle.monitor.proofs.Monitor.step.Tie as tie
 
@@ -29,11 +30,11 @@ unfolding stepOf
 returns c = rw (← c .before .before .before .check .ensures, c .before .checked .given .1)
 
 returns-2 : tie.Need-returns-2
-unfolding stepOf
 returns-2 c =
     let found = c .before .before .before in
     let ok = is-accepted (tagOf the-type) (λ x. refl) (found .check .ensures) (c .before .before .match .keys2) in
-    c .accepted-step .ensures ∙ rw ok
+    let a = found .before .args in
+    c .accepted-step .ensures ∙ sym (rules-accepted (a .list) ok (a .self) (a .zone))
 
 pub step-spec : {M : Type 1} → statement M
 step-spec =

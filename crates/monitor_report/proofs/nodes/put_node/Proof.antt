@@ -2,7 +2,7 @@
 use borrow.Author.Needs.{needs}
 use native.Mathlib.Omega.{arith}
 use Rattle.write.specs.WroteLaws.{wrote-nothing}
-use Rattle.monitor_report.specs.TotalsWritten.{no-total, one-total}
+use Rattle.monitor_report.specs.TotalsWrittenLaws.{no-total, one-total}
 use Rattle.monitor_report.proofs.nodes.put_node.Statement.{statement}
 use Rattle.monitor_report.proofs.nodes.put_node.Tie as tie
 

@@ -3,7 +3,7 @@ use borrow.Author.Needs.{needs}
 use Prim.Native.Nat.{_-_}
 use native.Mathlib.Omega.{arith}
 use Rattle.monitor_text.specs.Readings.{nodeCount}
-use Rattle.monitor_report.specs.TotalsWritten.{TotalsWritten, totals-start, totals-more, totals-done}
+use Rattle.monitor_report.specs.TotalsWrittenLaws.{TotalsWritten, totals-start, totals-more, totals-done}
 use Rattle.monitor_report.proofs.nodes.put_totals.Statement.{statement}
 use Rattle.monitor_report.proofs.nodes.put_totals.Tie as tie
 

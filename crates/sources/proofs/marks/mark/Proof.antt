@@ -3,14 +3,14 @@ use Prim.Native.Nat.{_-_, _*_}
 use mathlib.Core.Path.{_≡_, refl}
 use lib.ListN.{length}
 use Rattle.rules.specs.Bounds.{zoneCount}
-use Rattle.sources.specs.Marks.{Marked}
+use Rattle.sources.specs.Marks.{MarkedUpTo}
 use Rattle.sources.specs.MarksLaws.{mark-start, mark-can, mark-more, mark-done}
 use borrow.Author.Needs.{needs}
 use Rattle.sources.proofs.marks.mark.Statement.{statement}
 use Rattle.sources.proofs.marks.mark.Tie as tie
 
 abbrev Inv-loop : tie.InvT-loop
-Inv-loop moves n marks₀ k₀ marks k = (length marks ≡ length marks₀) × Marked moves n k marks
+Inv-loop moves n marks₀ k₀ marks k = (length marks ≡ length marks₀) × MarkedUpTo moves n k marks
 
 abbrev μ-loop : tie.MeasureT-loop
 μ-loop moves n marks₀ k₀ marks k = zoneCount * n - k

@@ -5,7 +5,7 @@ use native.Mathlib.Omega.{arith}
 use lib.ListN.{getD}
 use borrow.Author.Count.{below-none, below-more}
 use Rattle.rules.specs.Bounds.{zoneCount}
-use Rattle.sources.specs.AlikeLaws.{alike-not, alike-all}
+use Rattle.sources.specs.AlikeZonesLaws.{alike-not, alike-all}
 use borrow.Author.Needs.{needs}
 use Rattle.sources.proofs.zones.alike.Statement.{statement}
 use Rattle.sources.proofs.zones.alike.Tie as tie

@@ -1,6 +1,6 @@
 -- `zones::first_alike` meets its contract.
 use Prim.Native.Nat.{_-_, _≤_}
-use Rattle.sources.specs.AlikeLaws.{alike-found, alike-self}
+use Rattle.sources.specs.AlikeZonesLaws.{alike-found, alike-self}
 use borrow.Author.Needs.{needs}
 use Rattle.sources.proofs.zones.first_alike.Statement.{statement}
 use Rattle.sources.proofs.zones.first_alike.Tie as tie

@@ -4,8 +4,8 @@ use native.Mathlib.Omega.{arith}
 use lib.ListN.{getD}
 use Rattle.rules.specs.Bounds.{zoneCount}
 use Rattle.runlength.specs.Scale.{weightTotal}
-use Rattle.sources.specs.Alike.{Joining}
-use Rattle.sources.specs.AlikeLaws.{join-start, join-place, join-room, join-more, join-done}
+use Rattle.sources.specs.AlikeZones.{Joining}
+use Rattle.sources.specs.AlikeZonesLaws.{join-start, join-place, join-room, join-more, join-done}
 use borrow.Author.Needs.{needs}
 use Rattle.sources.proofs.zones.join.Statement.{statement}
 use Rattle.sources.proofs.zones.join.Tie as tie

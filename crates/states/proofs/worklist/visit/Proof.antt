@@ -1,4 +1,4 @@
--- `explore::visit` meets its contract: each return is one case of the move and of the state's place.
+-- `explore::visit` meets its contract: each return is one case of the move and of the state's index.
 use Prim.Native.Nat.{ℕ}
 use mathlib.Core.Path.{_≡_, refl, sym, _∙_}
 use native.Mathlib.Omega.{arith}
@@ -7,7 +7,7 @@ use borrow.Author.Needs.{needs}
 use Rattle.window.specs.declared.Move.{Move}
 use Rattle.window.specs.declared.Move.the-variants.{Quiet, Signal}
 use Rattle.window.proofs.Move.{the-type}
-use Rattle.states.specs.ExploreLaws.{place-small}
+use Rattle.states.specs.ExploreLaws.{index-small}
 use Rattle.states.specs.VisitLaws.{visit-signal, visit-known, visit-new, visit-over}
 use Rattle.states.proofs.worklist.visit.Statement.{statement}
 use Rattle.states.proofs.worklist.visit.Tie as tie
@@ -44,11 +44,11 @@ slice-write-moves c = search needs
 enum-known-next : tie.Need-enum-known-next
 enum-known-next c = search needs
 
-place-of-requires : tie.Need-place-of-requires
-place-of-requires c κs = search needs
+index-of-requires : tie.Need-index-of-requires
+index-of-requires c κs = search needs
 
 cast-moves-2 : tie.Need-cast-moves-2
-cast-moves-2 c = omega (arith, place-small _ _ _ (place-of-requires (c .before) (c .place-of .lifetimes)) (c .place-of .ensures))
+cast-moves-2 c = omega (arith, index-small _ _ _ (index-of-requires (c .before) (c .index-of .lifetimes)) (c .index-of .ensures))
 
 mul-moves-2 : tie.Need-mul-moves-2
 mul-moves-2 c = search needs
@@ -87,7 +87,7 @@ returns-2 : tie.Need-returns-2
 returns-2 c =
     let t = c .before .before .before .before in
     let m = t .before .before in
-    visit-known (m .before .before .before .before .pre) (sym (m .move-of .ensures) ∙ t .next .given .1) (c .before .place-of .ensures) (omega arith)
+    visit-known (m .before .before .before .before .pre) (sym (m .move-of .ensures) ∙ t .next .given .1) (c .before .index-of .ensures) (omega arith)
 
 same-length-4 : tie.Need-same-length-4
 same-length-4 c = search needs
@@ -99,7 +99,7 @@ returns-3 : tie.Need-returns-3
 returns-3 c =
     let t = c .before .before .before .before .before in
     let m = t .before .before in
-    visit-new (m .before .before .before .before .pre) (sym (m .move-of .ensures) ∙ t .next .given .1) (c .before .before .place-of .ensures) (omega arith) (omega arith)
+    visit-new (m .before .before .before .before .pre) (sym (m .move-of .ensures) ∙ t .next .given .1) (c .before .before .index-of .ensures) (omega arith) (omega arith)
 
 same-length-6 : tie.Need-same-length-6
 same-length-6 c = search needs
@@ -111,7 +111,7 @@ returns-4 : tie.Need-returns-4
 returns-4 c =
     let t = c .before .before .before .before .before in
     let m = t .before .before in
-    visit-over (m .before .before .before .before .pre) (sym (m .move-of .ensures) ∙ t .next .given .1) (c .before .before .place-of .ensures) (omega arith) (omega arith)
+    visit-over (m .before .before .before .before .pre) (sym (m .move-of .ensures) ∙ t .next .given .1) (c .before .before .index-of .ensures) (omega arith) (omega arith)
 
 pub visit-spec : {M : Type 1} → statement M
 visit-spec =
@@ -126,7 +126,7 @@ visit-spec =
     mul-moves
     slice-write-moves
     enum-known-next
-    place-of-requires
+    index-of-requires
     cast-moves-2
     mul-moves-2
     slice-write-moves-2

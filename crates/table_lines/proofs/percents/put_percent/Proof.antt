@@ -1,4 +1,4 @@
--- `print::put_percent` meets its contract: the percent, the place, LF.
+-- `print::put_percent` meets its contract: the percent, the bracket, LF.
 use native.Mathlib.Omega.{arith}
 use Rattle.write.specs.WroteLaws.{then}
 use Rattle.table_lines.specs.PercentLine.{percentLine}
@@ -12,8 +12,8 @@ slice-aggregate-put-named c = search needs
 put-named-requires : tie.Need-put-named-requires
 put-named-requires c κs = search needs
 
-put-place-requires : tie.Need-put-place-requires
-put-place-requires c κs = search needs
+put-bracket-requires : tie.Need-put-bracket-requires
+put-bracket-requires c κs = search needs
 
 put-byte-requires : tie.Need-put-byte-requires
 put-byte-requires c κs = search needs
@@ -31,7 +31,7 @@ put-percent-spec =
     (tie.spec
     slice-aggregate-put-named
     put-named-requires
-    put-place-requires
+    put-bracket-requires
     put-byte-requires
     same-length
     returns)

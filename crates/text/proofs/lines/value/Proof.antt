@@ -3,7 +3,7 @@ use borrow.Author.Needs.{needs}
 use mathlib.Core.Path.{sym, ap, _∙_}
 use mathlib.Core.Bool.{Bool, cond}
 use borrow.Author.Tests.{eq-eqb, ne-eqb}
-use Rattle.grammar.specs.Row.{number, signed}
+use Rattle.grammar.specs.LineValues.{number, signed}
 use Rattle.text.specs.LineRead.{codeAt}
 use Rattle.text.proofs.lines.value.Statement.{statement}
 use Rattle.text.proofs.lines.value.Tie as tie

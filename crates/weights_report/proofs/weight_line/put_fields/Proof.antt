@@ -3,7 +3,7 @@ use borrow.Author.Needs.{needs}
 use Prim.Native.Nat.{_-_}
 use native.Mathlib.Omega.{arith}
 use lib.ListN.{length}
-use Rattle.weights_report.specs.FieldsWritten.{FieldsWritten, fielded-start, fielded-more, fielded-done}
+use Rattle.weights_report.specs.FieldsWrittenLaws.{FieldsWritten, fielded-start, fielded-more, fielded-done}
 use Rattle.weights_report.proofs.weight_line.put_fields.Statement.{statement}
 use Rattle.weights_report.proofs.weight_line.put_fields.Tie as tie
 
