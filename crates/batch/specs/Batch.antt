@@ -50,7 +50,7 @@ pub data Ends (b : Batch) : Type 0 where
   unrefused : b .refusal ≡ notRefused → Ends b
   full : b .refusal ≡ badCount → 1 ≤ b .taken → maxNumber ≤ b .next .count → Ends b
 
--- ---- what holds while the readings are quiet
+-- ---- working: what holds while the readings are quiet
 
 -- the first i readings led from `start` to m: the batch is what the readings left give from m on, i readings later
 pub record Left (l : RuleList) (start : Monitor) (centre : ℤ) (sigma : ℕ) (xs : List ℤ) (m : Monitor) (i : ℕ)

@@ -43,7 +43,7 @@ readingCheck l m sigma =
     (orElse (unless (validState (m .count) (activeRules l) (m .state)) badState)
     (unless (ltb (m .count) maxNumber) badCount)))
 
--- ---- where only the count can refuse a reading
+-- ---- working: where only the count can refuse a reading
 
 -- accepted rules, sigma within its bounds, and a state that can be given
 pub record Readable (l : RuleList) (sigma : ℕ) (m : Monitor) : Type 0 where

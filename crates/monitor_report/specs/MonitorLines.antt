@@ -36,7 +36,8 @@ pointBytes (Signal node n mask period) = signalLine node n mask period
 unfoldable pub totalLine : ℕ → ℕ → ℕ → List ℕ
 totalLine node points signals = totalWord ++ field node ++ field points ++ field signals ++ newline
 
--- the most bytes that each has; a signal's line is the longer one of a point
+-- ---- working: the most bytes that each has; a signal's line is the longer one of a point
+
 abbrev pub pointRoom : ℕ
 pointRoom = length signalWord + shortField + shortField + shortField + shortField + length newline
 

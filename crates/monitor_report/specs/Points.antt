@@ -11,6 +11,8 @@ use Rattle.monitor_text.specs.MonitorGrammar.{pointLine}
 use Rattle.monitor_text.specs.Readings.{NodeReading, nodeCount, readingsOf}
 use Rattle.monitor_report.specs.MonitorLines.{quietLine, signalLine, pointRoom, totalLine, totalRoom}
 
+-- ---- working: rooms
+
 -- the fewest bytes of a point line, by its kind; the most points that a text can have; and the most bytes of their lines and the nodes' totals
 abbrev pub minPoint : ℕ
 minPoint = leastOf pointLine
@@ -20,6 +22,8 @@ maxPoints = maxText / minPoint
 
 abbrev pub monitorRoom : ℕ
 monitorRoom = pointRoom * maxPoints + totalRoom * nodeCount
+
+-- ---- answers
 
 -- how many answers are signals
 unfoldable pub signalsIn : List Answer → ℕ

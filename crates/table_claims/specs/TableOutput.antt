@@ -16,8 +16,8 @@ use Rattle.rule_lines.specs.Rules.{ruleListOf}
 use Rattle.write.specs.Refused.{refusedLine}
 use Rattle.table_lines.specs.RowLine.{standingsLine, headerLine, rowLine, arlLine}
 use Rattle.table_lines.specs.PercentLine.{percentLine}
-use Rattle.table_lines.specs.TableLines.{maxRows}
-use Rattle.table_report.specs.TableReport.{reportHorizon}
+use Rattle.table_lines.specs.LargestHorizon.{maxRows}
+use Rattle.table_lines.specs.LargestHorizon.{reportHorizon}
 use Rattle.runlength.specs.Scale.{weightTotal, unitsPerOne}
 use Rattle.runlength.specs.Chain.{pmf, cdf, survival, restrictedMean}
 use Rattle.chain.specs.TableChain.{stateCount, tableChain}

@@ -7,7 +7,8 @@ use Rattle.rules.specs.declared.Checked.the-variants.{Accepted}
 use Rattle.table.specs.Table.{chainCheck}
 use Rattle.rule_lines.specs.Rules.{ruleListOf}
 use Rattle.write.specs.Printed.{printedBytes}
-use Rattle.table_report.specs.TableReport.{reportHorizon, tablePrinted}
+use Rattle.table_lines.specs.LargestHorizon.{reportHorizon}
+use Rattle.table_report.specs.TableReport.{tablePrinted}
 use Rattle.table_claims.specs.TableTexts.{TableTextIs}
 use Rattle.table_claims.specs.TableOutput.{Figures, figureLines, FiguresHold, TableProgram}
 use Rattle.table_claims.specs.TableProgramLaws.{table-program as table-program-proved, table-printed as table-printed-proved}

@@ -30,9 +30,11 @@ use Rattle.rule_lines.specs.RulesLaws.{active-rules, rules-few}
 use Rattle.table_text.specs.TableText.{refusedTable, readTable, tableGiven, tableText}
 use Rattle.table_lines.specs.RowLine.{rowLine, tableRows}
 use Rattle.table_lines.specs.PercentLine.{percentLines}
-use Rattle.table_lines.specs.TableLines.{tableBytes, maxRows}
+use Rattle.table_lines.specs.LargestHorizon.{maxRows}
+use Rattle.table_lines.specs.TableLines.{tableBytes}
 use Rattle.write.specs.Printed.{refusedBy, printedBytes}
-use Rattle.table_report.specs.TableReport.{reportHorizon, reportCall, tableLines, summaryLines, blank, tablePrinted}
+use Rattle.table_lines.specs.LargestHorizon.{reportHorizon}
+use Rattle.table_report.specs.TableReport.{reportCall, tableLines, summaryLines, blank, tablePrinted}
 use Rattle.table_report.specs.TableReportLaws.{horizon-small}
 use Rattle.grammar.specs.Grammar.{Contents}
 use Rattle.grammar.specs.TextReading.{Reading, readText}

@@ -4,4 +4,5 @@ pub mod RowsWritten
 pub mod RowLineLaws
 pub mod PercentLine
 pub mod PercentLineLaws
+pub mod LargestHorizon
 pub mod TableLines

@@ -44,7 +44,7 @@ unfoldable pub percentLines : Summary → List ℕ
 percentLines s =
     percentLine 5 (s .p5) ++ percentLine 25 (s .p25) ++ percentLine 50 (s .p50) ++ percentLine 75 (s .p75) ++ percentLine 95 (s .p95)
 
--- the most bytes that each has; the longest bracket is `between` with its two fields
+-- ---- working: the most bytes that each has; the longest bracket is `between` with its two fields
 abbrev pub bracketRoom : ℕ
 bracketRoom = length comma + length betweenWord + fieldRoom + fieldRoom
 

@@ -54,7 +54,8 @@ tableRows (suc n) pmf survival =
 unfoldable pub arlLine : ℕ → ℕ → ℕ → List ℕ
 arlLine whole fraction error = arlWord ++ field whole ++ field fraction ++ field error ++ newline
 
--- the most bytes that each has
+-- ---- working: the most bytes that each has
+
 abbrev pub standingsRoom : ℕ
 standingsRoom = length standingsWord + fieldRoom + length newline
 

@@ -10,7 +10,8 @@ ghost use lib.ListN.{length};
 ghost use Rattle.runlength.specs.Scale.{unitsPerOne};
 ghost use Rattle.runlength.specs.Chain.{cdfOf};
 ghost use Rattle.write.specs.Wrote.{Wrote};
-ghost use Rattle.table_lines.specs.TableLines.{tableBytes, maxRows, tableRoom};
+ghost use Rattle.table_lines.specs.LargestHorizon.{maxRows};
+ghost use Rattle.table_lines.specs.TableLines.{tableBytes, tableRoom};
 
 // The table program's output, from the buffer's start: a table's summary, and its rows up to the horizon.
 pub fn put_table(

@@ -1,21 +1,18 @@
--- TO BELIEVE: what the table program prints for a text. Definitions.
+-- What the table program prints for a text, by what its parser gives. Working definitions; `table-program` says what it is, from bytes to bytes.
 use Prim.Native.Nat.{ℕ}
 use mathlib.Core.Bool.{cond}
 use mathlib.Core.List.{List}
-use lib.Dec.{leb, eqb}
+use lib.Dec.{eqb}
 use lib.ListN.{replicate}
 use Rattle.table.specs.Table.{TableCall, tableCall}
 use Rattle.summary.specs.declared.SummaryAnswer.{SummaryAnswer}
 use Rattle.summary.specs.Summary.{summaryOf}
 use Rattle.table_text.specs.declared.TableText.{TableText}
 use Rattle.table_text.specs.TableText.{tableText}
-use Rattle.table_lines.specs.TableLines.{tableBytes, maxRows}
+use Rattle.table_lines.specs.LargestHorizon.{maxRows, reportHorizon}
+use Rattle.table_lines.specs.TableLines.{tableBytes}
 use Rattle.write.specs.Printed.{Printed, lines, refusedBy}
 use Rattle.table.specs.Table.{CallResult}
-
--- the program takes a horizon up to 4,096; a larger one is refused by 9, in 9's place, as 0 is
-abbrev pub reportHorizon : ℕ → ℕ
-reportHorizon h = cond (leb h maxRows) h 0
 
 -- an empty list of the program's largest horizon
 unfoldable pub blank : List ℕ

@@ -20,11 +20,13 @@ use Rattle.summary.specs.SummaryLaws.{accepted-summary}
 use Rattle.write.specs.Wrote.{Wrote}
 use Rattle.table_text.specs.declared.TableText.{TableText}
 use Rattle.table_text.specs.TableText.{tableText}
-use Rattle.table_lines.specs.TableLines.{tableBytes, maxRows}
+use Rattle.table_lines.specs.LargestHorizon.{maxRows}
+use Rattle.table_lines.specs.TableLines.{tableBytes}
 use Rattle.write.specs.declared.ReportAnswer.the-variants.{Written, Refused}
 use Rattle.write.specs.Printed.{report, reportOf}
 use Rattle.write.specs.PrintedLaws.{as-refused, as-written}
-use Rattle.table_report.specs.TableReport.{reportHorizon, summaryLines, blank, tablePrinted}
+use Rattle.table_lines.specs.LargestHorizon.{reportHorizon}
+use Rattle.table_report.specs.TableReport.{summaryLines, blank, tablePrinted}
 use Rattle.table.specs.Table.{CallResult, callResult}
 
 pub horizon-small : (h : ℕ) → reportHorizon h ≤ maxRows

@@ -5,7 +5,8 @@ use table_lines::MAX_ROWS;
 use write::put_answer;
 ghost use mathlib.Core.Path.{_≡_};
 ghost use Rattle.write.specs.Printed.{report, reportOf, printedBytes, OutputIs};
-ghost use Rattle.table_report.specs.TableReport.{tablePrinted, reportHorizon};
+ghost use Rattle.table_lines.specs.LargestHorizon.{reportHorizon};
+ghost use Rattle.table_report.specs.TableReport.{tablePrinted};
 use write::ReportAnswer;
 
 // Room for the table program's lines at its largest horizon.

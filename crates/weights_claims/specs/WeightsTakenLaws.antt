@@ -18,7 +18,8 @@ use Rattle.table_text.specs.TableGrammar.{horizonLine}
 use Rattle.rule_lines.specs.Rules.{ruleLine, ruleValues, ruleListOf}
 use Rattle.write.specs.Refused.{refusedLine}
 use Rattle.write.specs.Printed.{printedBytes}
-use Rattle.table_report.specs.TableReport.{reportHorizon, tablePrinted}
+use Rattle.table_lines.specs.LargestHorizon.{reportHorizon}
+use Rattle.table_report.specs.TableReport.{tablePrinted}
 use Rattle.weights_report.specs.WeightsReport.{weightsPrinted}
 use Rattle.claims.specs.ShiftedCore.{chain-never-eight}
 use Rattle.table_claims.specs.TableOutput.{TableRefusal, TableProgram, refuses, prints, too-long, bad-line, bad-table}

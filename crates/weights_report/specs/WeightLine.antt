@@ -14,6 +14,7 @@ use Rattle.write.specs.Field.{shortField}
 unfoldable pub weightLine : ZoneWeights → List ℕ
 weightLine w = weightsWord ++ fields (weightList w) ++ newline
 
--- the most bytes that it has
+-- ---- working: the most bytes that it has
+
 abbrev pub weightsRoom : ℕ
 weightsRoom = length weightsWord + zoneCount * shortField + length newline

@@ -1,4 +1,4 @@
--- TO BELIEVE: the room for a field of a line. Definition; the field itself is the text format's.
+-- The room for a field of a line. Working definitions; the field itself is the text format's.
 use Prim.Native.Nat.{ℕ, _+_}
 use lib.ListN.{length}
 use Rattle.write.specs.NumberRoom.{numberRoom, shortRoom}

@@ -1,4 +1,4 @@
--- TO BELIEVE: the room that a number in decimal needs. Definitions.
+-- The room that a number in decimal needs. Working definitions.
 use Prim.Native.Nat.{ℕ}
 
 -- the most digits of a number of 64 bits: 2 ^ 64 is between 10 ^ 19 and 10 ^ 20
