@@ -290,7 +290,7 @@ check "runs_monitor: sixteen nodes, six of them with over 999 points" 0 "@$work/
 
 # The longest output. Each point signals by seven rules: a quiet line is shorter by two bytes even where its n has four digits, and a mask of
 # three digits takes seven rules. All points are on node 0, so that most periods have four digits, but for one on each other node, which also
-# prints that node's total. The bytes were reckoned for every number of rules and every number of points of each node; no other choice has more.
+# prints that node's total. The bytes were computed for every number of rules and every number of points of each node; no other choice has more.
 # Three bytes of text are left, too few for one more point.
 {
   times 1 chart,0,1 && times 7 rule,1,1,1

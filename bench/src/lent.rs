@@ -2,6 +2,7 @@
 //! the two places that must be alike; what is accepted it gives back as the Rust layer does.
 use crate::{Refusal, Rule, ZONES};
 use catrovindy::{raw, Batch, BoxPlot, Bracket, Figures, Monitor, PlotItem, Point, RuleList};
+use std::fmt::Debug;
 
 /// Eight slots of k, m and Z, the unused ones filled with what must not be looked at; what does not fit is cut off, and the count still says
 /// how many rules there are.
@@ -13,6 +14,15 @@ fn slots(rules: &[Rule]) -> ([u32; raw::SLOTS], u32) {
     (slots, rules.len() as u32)
 }
 
+/// What a code says: accepted, or the refusal; a refusal leaves what was lent as it was.
+fn told<T: PartialEq + Debug>(code: u64, lent: T, kept: T) -> Result<(), Refusal> {
+    let told = Refusal::check(code);
+    if told.is_err() {
+        assert_eq!(lent, kept, "a refusal altered what was lent");
+    }
+    told
+}
+
 /// The list as the Rust layer takes it.
 pub fn list(rules: &[Rule]) -> RuleList {
     RuleList::from(rules)
@@ -22,10 +32,7 @@ pub fn zone(reading: i32, centre: i32, sigma: u32) -> Result<u32, Refusal> {
     let mut zone = [77u32];
     // SAFETY: the array has one place.
     let code = unsafe { raw::catrovindy_zone(reading, centre, sigma, zone.as_mut_ptr()) };
-    if let Err(refusal) = Refusal::check(code) {
-        assert_eq!(zone, [77], "a refusal altered the zone");
-        return Err(refusal);
-    }
+    told(code, zone, [77])?;
     Ok(zone[0])
 }
 
@@ -36,10 +43,7 @@ pub fn step(rules: &[Rule], given: Monitor, zone: u32) -> Result<(Point, Monitor
     let code = unsafe {
         raw::catrovindy_step(slots.as_ptr(), count, state.as_mut_ptr(), points.as_mut_ptr(), zone, answer.as_mut_ptr())
     };
-    if let Err(refusal) = Refusal::check(code) {
-        assert_eq!((state, points, answer), ([given.state], [given.points], [0xA5A5, 0x5A5A]), "a refusal altered something");
-        return Err(refusal);
-    }
+    told(code, (state, points, answer), ([given.state], [given.points], [0xA5A5, 0x5A5A]))?;
     Ok((Point { count: answer[0], mask: answer[1] }, Monitor { state: state[0], points: points[0] }))
 }
 
@@ -61,10 +65,7 @@ pub fn batch(rules: &[Rule], given: Monitor, centre: i32, sigma: u32, readings: 
             answer.as_mut_ptr(),
         )
     };
-    if let Err(refusal) = Refusal::check(code) {
-        assert_eq!((state, points, answer), ([given.state], [given.points], kept), "a refusal altered something");
-        return Err(refusal);
-    }
+    told(code, (state, points, answer), ([given.state], [given.points], kept))?;
     let small = |x: u64| u32::try_from(x).expect("32 bits");
     let (taken, count) = (answer[0] as usize, small(answer[1]));
     let batch = match answer {
@@ -100,10 +101,7 @@ pub fn table(
             figures.as_mut_ptr(),
         )
     };
-    if let Err(refusal) = Refusal::check(code) {
-        assert_eq!(figures, kept, "a refusal altered the figures");
-        return Err(refusal);
-    }
+    told(code, figures, kept)?;
     let [states, survival, mean_whole, mean_fraction] = figures;
     Ok(Figures { states: u32::try_from(states).expect("32 bits"), survival, mean_whole, mean_fraction })
 }
@@ -113,10 +111,7 @@ pub fn bracket(chances: &[u64], states: u32, percent: u32) -> Result<Bracket, Re
     let mut answer = kept;
     // SAFETY: the array has the size that the header gives, and the list comes with its length.
     let code = unsafe { raw::catrovindy_bracket(chances.as_ptr(), chances.len(), states, percent, answer.as_mut_ptr()) };
-    if let Err(refusal) = Refusal::check(code) {
-        assert_eq!(answer, kept, "a refusal altered the answer");
-        return Err(refusal);
-    }
+    told(code, answer, kept)?;
     Ok(match answer {
         [1, first, second] if first == second => Bracket::At(first),
         [2, low, high] => Bracket::Between(low, high),
@@ -163,10 +158,7 @@ pub fn box_plot(
             values.as_mut_ptr(),
         )
     };
-    if let Err(refusal) = Refusal::check(code) {
-        assert_eq!((kinds, values), kept, "a refusal altered the record");
-        return Err(refusal);
-    }
+    told(code, (kinds, values), kept)?;
     let at = |i: usize| item(kinds[i], &values[2 * i..2 * i + 2]);
     let iqr = match kinds[5] {
         0 => {
@@ -184,10 +176,7 @@ pub fn shift_weights(shift: i32) -> Result<[u32; ZONES], Refusal> {
     let mut weights = kept;
     // SAFETY: the array has the size that the header gives.
     let code = unsafe { raw::catrovindy_shift_weights(shift, weights.as_mut_ptr()) };
-    if let Err(refusal) = Refusal::check(code) {
-        assert_eq!(weights, kept, "a refusal altered the weights");
-        return Err(refusal);
-    }
+    told(code, weights, kept)?;
     Ok(weights)
 }
 
@@ -201,10 +190,7 @@ unsafe fn report(call: Report, text: &[u8], out: &mut [u8]) -> Result<usize, Ref
     let mut bytes = [77u64];
     // SAFETY: the text comes with its length, the buffer is the caller's care, and the array has one place.
     let code = unsafe { call(text.as_ptr(), text.len(), out.as_mut_ptr(), bytes.as_mut_ptr()) };
-    if let Err(refusal) = Refusal::check(code) {
-        assert_eq!(bytes, [77], "a refusal altered the number of bytes");
-        return Err(refusal);
-    }
+    told(code, bytes, [77])?;
     Ok(bytes[0] as usize)
 }
 

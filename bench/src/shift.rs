@@ -110,7 +110,7 @@ static TABLE: LazyLock<[u32; AREAS]> = LazyLock::new(|| {
     std::array::from_fn(|k| nearest(area(k as u128, root)))
 });
 
-/// The normal area from 0 to k / 100 in units of 2^-30, to the nearest, for k = 0 to 450. It is reckoned once.
+/// The normal area from 0 to k / 100 in units of 2^-30, to the nearest, for k = 0 to 450. It is computed once.
 pub fn areas() -> &'static [u32; AREAS] {
     &TABLE
 }

@@ -125,57 +125,12 @@ mod exported {
         #[must_use]
         pub fn catrovindy_step(slots: *const u32, count: u32, state: *mut u64, points: *mut u32, zone: u32, answer: *mut u32) -> u64;
 
-        pub fn catrovindy_batch(
-            slots: *const u32,
-            count: u32,
-            state: *mut u64,
-            points: *mut u32,
-            centre: i32,
-            sigma: u32,
-            readings: *const i32,
-            length: usize,
-            answer: *mut u64,
-        ) -> u64;
-
         /// The weights of a shifted core: the code.
         ///
         /// # Safety
         /// `weights` are [`ZONES`](crate::ZONES) numbers, written only.
         #[must_use]
         pub fn catrovindy_shift_weights(shift: i32, weights: *mut u32) -> u64;
-
-        pub fn catrovindy_table(
-            slots: *const u32,
-            count: u32,
-            weights: *const u32,
-            horizon: u32,
-            pmf: *mut u64,
-            pmf_length: usize,
-            survival: *mut u64,
-            survival_length: usize,
-            figures: *mut u64,
-        ) -> u64;
-
-        pub fn catrovindy_bracket(pmf: *const u64, pmf_length: usize, state_count: u32, percent: u32, answer: *mut u32) -> u64;
-
-        pub fn catrovindy_plot(
-            slots: *const u32,
-            count: u32,
-            weights: *const u32,
-            horizon: u32,
-            pmf: *mut u64,
-            pmf_length: usize,
-            survival: *mut u64,
-            survival_length: usize,
-            kinds: *mut u32,
-            values: *mut f64,
-        ) -> u64;
-
-        pub fn catrovindy_table_report(text: *const u8, length: usize, out: *mut u8, bytes: *mut u64) -> u64;
-
-        pub fn catrovindy_monitor_report(text: *const u8, length: usize, out: *mut u8, bytes: *mut u64) -> u64;
-
-        pub fn catrovindy_weights_report(text: *const u8, length: usize, out: *mut u8, bytes: *mut u64) -> u64;
     }
 }
 
@@ -192,123 +147,111 @@ const fn start<T>(list: *const T, length: usize) -> *const T {
 
 /// The start of a list that is written; for a list of length 0 a pointer that is not null.
 const fn start_mut<T>(list: *mut T, length: usize) -> *mut T {
-    if length == 0 {
-        NonNull::dangling().as_ptr()
-    } else {
-        list
-    }
+    start(list, length).cast_mut()
 }
 
-/// Readings one after another until one signals, the count is full, or none is left: the code.
-///
-/// # Safety
-/// `slots` are [`SLOTS`] numbers and `readings` as many as `length` says; `state` and `points` are one number each, read and written;
-/// `answer` are [`BATCH_ANSWER`], written only.
-#[must_use]
-pub unsafe extern "C" fn catrovindy_batch(
-    slots: *const u32,
-    count: u32,
-    state: *mut u64,
-    points: *mut u32,
-    centre: i32,
-    sigma: u32,
-    readings: *const i32,
-    length: usize,
-    answer: *mut u64,
-) -> u64 {
-    // SAFETY: as the caller's, and the list is not null.
-    unsafe { exported::catrovindy_batch(slots, count, state, points, centre, sigma, start(readings, length), length, answer) }
+/// Declares functions of the library that take lists, and gives each of them with lists that may be null where they are empty. Behind `where`
+/// stands by which function the start of a list is found, and which parameter is its length.
+macro_rules! with_lists {
+    ($($(#[$text:meta])* fn $name:ident($($parameter:ident: $kind:ty),* $(,)?) where $($list:ident = $start:ident($length:ident)),*;)*) => {
+        mod listed {
+            extern "C" {
+                $(pub fn $name($($parameter: $kind),*) -> u64;)*
+            }
+        }
+
+        $($(#[$text])*
+        #[must_use]
+        pub unsafe extern "C" fn $name($($parameter: $kind),*) -> u64 {
+            $(let $list = $start($list, $length);)*
+            // SAFETY: as the caller's, and the lists are not null.
+            unsafe { listed::$name($($parameter),*) }
+        })*
+    };
 }
 
-/// The run-length table: the code.
-///
-/// # Safety
-/// `slots` are [`SLOTS`] numbers and `weights` [`ZONES`](crate::ZONES); `pmf` and `survival` are as many as their lengths say and `figures`
-/// [`FIGURES`], written only.
-#[must_use]
-pub unsafe extern "C" fn catrovindy_table(
-    slots: *const u32,
-    count: u32,
-    weights: *const u32,
-    horizon: u32,
-    pmf: *mut u64,
-    pmf_length: usize,
-    survival: *mut u64,
-    survival_length: usize,
-    figures: *mut u64,
-) -> u64 {
-    let (pmf, survival) = (start_mut(pmf, pmf_length), start_mut(survival, survival_length));
-    // SAFETY: as the caller's, and the lists are not null.
-    unsafe { exported::catrovindy_table(slots, count, weights, horizon, pmf, pmf_length, survival, survival_length, figures) }
-}
+with_lists! {
+    /// Readings one after another until one signals, the count is full, or none is left: the code.
+    ///
+    /// # Safety
+    /// `slots` are [`SLOTS`] numbers and `readings` as many as `length` says; `state` and `points` are one number each, read and written;
+    /// `answer` are [`BATCH_ANSWER`], written only.
+    fn catrovindy_batch(
+        slots: *const u32,
+        count: u32,
+        state: *mut u64,
+        points: *mut u32,
+        centre: i32,
+        sigma: u32,
+        readings: *const i32,
+        length: usize,
+        answer: *mut u64,
+    ) where readings = start(length);
 
-/// The bracket of a percentile: the code.
-///
-/// # Safety
-/// `pmf` are as many numbers as its length says; `answer` are [`BRACKET_ANSWER`], written only.
-#[must_use]
-pub unsafe extern "C" fn catrovindy_bracket(
-    pmf: *const u64,
-    pmf_length: usize,
-    state_count: u32,
-    percent: u32,
-    answer: *mut u32,
-) -> u64 {
-    // SAFETY: as the caller's, and the list is not null.
-    unsafe { exported::catrovindy_bracket(start(pmf, pmf_length), pmf_length, state_count, percent, answer) }
-}
+    /// The run-length table: the code.
+    ///
+    /// # Safety
+    /// `slots` are [`SLOTS`] numbers and `weights` [`ZONES`](crate::ZONES); `pmf` and `survival` are as many as their lengths say and `figures`
+    /// [`FIGURES`], written only.
+    fn catrovindy_table(
+        slots: *const u32,
+        count: u32,
+        weights: *const u32,
+        horizon: u32,
+        pmf: *mut u64,
+        pmf_length: usize,
+        survival: *mut u64,
+        survival_length: usize,
+        figures: *mut u64,
+    ) where pmf = start_mut(pmf_length), survival = start_mut(survival_length);
 
-/// The plot record: the code.
-///
-/// # Safety
-/// `slots` are [`SLOTS`] numbers and `weights` [`ZONES`](crate::ZONES); `pmf` and `survival` are as many as their lengths say, `kinds`
-/// [`KINDS`] and `values` [`VALUES`], written only.
-#[must_use]
-pub unsafe extern "C" fn catrovindy_plot(
-    slots: *const u32,
-    count: u32,
-    weights: *const u32,
-    horizon: u32,
-    pmf: *mut u64,
-    pmf_length: usize,
-    survival: *mut u64,
-    survival_length: usize,
-    kinds: *mut u32,
-    values: *mut f64,
-) -> u64 {
-    let (pmf, survival) = (start_mut(pmf, pmf_length), start_mut(survival, survival_length));
-    // SAFETY: as the caller's, and the lists are not null.
-    unsafe { exported::catrovindy_plot(slots, count, weights, horizon, pmf, pmf_length, survival, survival_length, kinds, values) }
-}
+    /// The bracket of a percentile: the code.
+    ///
+    /// # Safety
+    /// `pmf` are as many numbers as its length says; `answer` are [`BRACKET_ANSWER`], written only.
+    fn catrovindy_bracket(
+        pmf: *const u64,
+        pmf_length: usize,
+        state_count: u32,
+        percent: u32,
+        answer: *mut u32,
+    ) where pmf = start(pmf_length);
 
-/// The table program's lines for a text: the code.
-///
-/// # Safety
-/// `text` are as many bytes as `length` says; `out` are [`TABLE_SIZE`](crate::TABLE_SIZE) bytes and `bytes` one number, written only.
-#[must_use]
-pub unsafe extern "C" fn catrovindy_table_report(text: *const u8, length: usize, out: *mut u8, bytes: *mut u64) -> u64 {
-    // SAFETY: as the caller's, and the list is not null.
-    unsafe { exported::catrovindy_table_report(start(text, length), length, out, bytes) }
-}
+    /// The plot record: the code.
+    ///
+    /// # Safety
+    /// `slots` are [`SLOTS`] numbers and `weights` [`ZONES`](crate::ZONES); `pmf` and `survival` are as many as their lengths say, `kinds`
+    /// [`KINDS`] and `values` [`VALUES`], written only.
+    fn catrovindy_plot(
+        slots: *const u32,
+        count: u32,
+        weights: *const u32,
+        horizon: u32,
+        pmf: *mut u64,
+        pmf_length: usize,
+        survival: *mut u64,
+        survival_length: usize,
+        kinds: *mut u32,
+        values: *mut f64,
+    ) where pmf = start_mut(pmf_length), survival = start_mut(survival_length);
 
-/// The monitor program's lines for a text: the code.
-///
-/// # Safety
-/// `text` are as many bytes as `length` says; `out` are [`MONITOR_SIZE`](crate::MONITOR_SIZE) bytes and `bytes` one number, written only.
-#[must_use]
-pub unsafe extern "C" fn catrovindy_monitor_report(text: *const u8, length: usize, out: *mut u8, bytes: *mut u64) -> u64 {
-    // SAFETY: as the caller's, and the list is not null.
-    unsafe { exported::catrovindy_monitor_report(start(text, length), length, out, bytes) }
-}
+    /// The table program's lines for a text: the code.
+    ///
+    /// # Safety
+    /// `text` are as many bytes as `length` says; `out` are [`TABLE_SIZE`](crate::TABLE_SIZE) bytes and `bytes` one number, written only.
+    fn catrovindy_table_report(text: *const u8, length: usize, out: *mut u8, bytes: *mut u64) where text = start(length);
 
-/// The weights program's line for a text: the code.
-///
-/// # Safety
-/// `text` are as many bytes as `length` says; `out` are [`WEIGHTS_SIZE`](crate::WEIGHTS_SIZE) bytes and `bytes` one number, written only.
-#[must_use]
-pub unsafe extern "C" fn catrovindy_weights_report(text: *const u8, length: usize, out: *mut u8, bytes: *mut u64) -> u64 {
-    // SAFETY: as the caller's, and the list is not null.
-    unsafe { exported::catrovindy_weights_report(start(text, length), length, out, bytes) }
+    /// The monitor program's lines for a text: the code.
+    ///
+    /// # Safety
+    /// `text` are as many bytes as `length` says; `out` are [`MONITOR_SIZE`](crate::MONITOR_SIZE) bytes and `bytes` one number, written only.
+    fn catrovindy_monitor_report(text: *const u8, length: usize, out: *mut u8, bytes: *mut u64) where text = start(length);
+
+    /// The weights program's line for a text: the code.
+    ///
+    /// # Safety
+    /// `text` are as many bytes as `length` says; `out` are [`WEIGHTS_SIZE`](crate::WEIGHTS_SIZE) bytes and `bytes` one number, written only.
+    fn catrovindy_weights_report(text: *const u8, length: usize, out: *mut u8, bytes: *mut u64) where text = start(length);
 }
 
 #[cfg(test)]

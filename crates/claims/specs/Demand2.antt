@@ -3,10 +3,14 @@ use mathlib.Core.Path.{_≡_, _∙_}
 use mathlib.Core.Bool.{true}
 use mathlib.Core.List.{List, []}
 use mathlib.Core.Logic.{_↔_}
-use Prim.Native.Nat.{ℕ, suc, _/_, _<_}
+use Prim.Native.Nat.{ℕ, suc, _/_, _%_, _^_, _<_}
 use Rattle.rules.specs.declared.RuleList.{RuleList}
 use Rattle.rules.specs.declared.Checked.the-variants.{Accepted}
-use Rattle.rules.specs.Check.{activeRules, checkOf}
+use Rattle.rules.specs.Check.{noRule, activeRules, checkOf}
+use Rattle.rules.specs.declared.Rule.{Rule}
+use Rattle.rules.specs.Mask.{bit}
+use Rattle.window.specs.ReferenceChart.{ruleHolds, rowMask}
+use lib.ListN.{length, getD}
 use Rattle.runlength.specs.Scale.{weightTotal}
 use Rattle.runlength.specs.Sum.{at, sum}
 use Rattle.runlength.specs.SumLaws.{sum-cong}
@@ -14,7 +18,7 @@ use Rattle.runlength.specs.Chain.{restrictedMean}
 use Rattle.runlength.specs.Future.{EqualFuture}
 use Rattle.monitor.specs.Step.{freshMonitor}
 use Rattle.monitor.specs.Calls.{monitorAnswers}
-use Rattle.monitor.specs.AgreementLaws.{monitor-agrees}
+use Rattle.monitor.specs.AgreementLaws.{monitor-agrees, mask-names-rules as mask-names-rules-proved}
 use Rattle.states.specs.States.{Met}
 use Rattle.states.specs.Automata.{stateAutomaton}
 use Rattle.chain.specs.TableChain.{exploredCount}
@@ -37,6 +41,10 @@ use Rattle.claims.specs.CountedLaws.{counts-states, counts-futures}
 -- since the chart was cleared, this one among them; bit i of its mask is set exactly when rule i's does; no bit beyond the rules is ever set.
 pub monitor-names : (l : RuleList) → checkOf l ≡ Accepted → (zs : List ℕ) → EachAnswered (activeRules l) [] zs (monitorAnswers l freshMonitor zs)
 monitor-names l accepted zs = rw (monitor-agrees l accepted zs) (chart-answered (activeRules l) [] zs)
+
+-- Bit i of the mask is set exactly when rule i's T(k,m,Z) holds over the row.
+pub mask-names-rules : (rs : List Rule) (row : List ℕ) (i : ℕ) → i < length rs → rowMask rs row / 2 ^ i % 2 ≡ bit (ruleHolds row (getD rs i noRule))
+mask-names-rules = mask-names-rules-proved
 
 -- ---- the table: every figure of an accepted call is the one of the round-down steps, by state, over the states that differ
 

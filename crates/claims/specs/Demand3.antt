@@ -8,7 +8,7 @@ use lib.Dec.{T}
 use lib.ListN.{length}
 use Rattle.rules.specs.declared.RuleList.{RuleList}
 use Rattle.rules.specs.declared.Checked.the-variants.{Accepted}
-use Rattle.rules.specs.Bounds.{zoneCount}
+use Rattle.rules.specs.Bounds.{zoneCount, maxNumber}
 use Rattle.rules.specs.Check.{activeRules, checkOf}
 use Rattle.runlength.specs.Scale.{maxHorizon, weightTotal, unitsPerOne}
 use Rattle.runlength.specs.Sum.{at, only}
@@ -23,7 +23,7 @@ use Rattle.runlength.specs.PercentileLaws.{never-percentile}
 use Rattle.monitor.specs.Step.{freshMonitor}
 use Rattle.window.specs.ReferenceChart.{chartAnswers}
 use Rattle.monitor.specs.Calls.{monitorAnswers, refusalNumber, Said, EachAnswer}
-use Rattle.monitor.specs.AgreementLaws.{no-call-gets-5, no-refused-call}
+use Rattle.monitor.specs.AgreementLaws.{no-call-gets-5, no-refused-call as no-refused-call-proved}
 use Rattle.monitor.specs.AgreementLaws.{monitor-agrees as monitor-agrees-proved}
 use Rattle.table.specs.declared.TableFigures.{TableFigures}
 use Rattle.table.specs.declared.TableAnswer.{TableAnswer}
@@ -53,10 +53,14 @@ module _ (l : RuleList) (accepted : checkOf l ≡ Accepted) where
   pub monitor-never-5 : (zs : List ℕ) → EachAnswer (λ a. refusalNumber a ≡ 5 → ⊥) (monitorAnswers l freshMonitor zs)
   monitor-never-5 zs = no-call-gets-5 l accepted zs
 
+  -- In a list of at most 2^32 - 1 calls whose zones all exist no call is refused: each is answered quiet or signal.
+  pub no-refused-call : (zs : List ℕ) → AllBelow zoneCount zs → length zs ≤ maxNumber → EachAnswer Said (monitorAnswers l freshMonitor zs)
+  no-refused-call = no-refused-call-proved l accepted
+
   module _ (n : ℕ) (n-max : n ≤ maxHorizon) where
     -- A call list with a sequence of n zones has no refused call: each answer is quiet or signal.
     pub monitor-takes : (q : List ℕ) → length q ≡ n → AllBelow zoneCount q → EachAnswer Said (monitorAnswers l freshMonitor q)
-    monitor-takes q k i = no-refused-call l accepted q i (omega arith)
+    monitor-takes q k i = no-refused-call q i (omega arith)
 
     -- The monitor answers it as the plain chart does that refuses none, so it signals on the same sequences.
     pub monitor-signals : (q : List ℕ) → length q ≡ n → AllBelow zoneCount q → monitorAnswers l freshMonitor q ≡ freeAnswers (activeRules l) [] q

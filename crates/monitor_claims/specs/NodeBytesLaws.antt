@@ -22,7 +22,7 @@ use Rattle.monitor_report.specs.PointsLaws.{last-more}
 use Rattle.monitor_claims.specs.MonitorLinesLaws.{quiet-shape, signal-shape, total-shape}
 use Rattle.monitor_claims.specs.MonitorOutput.{EachSaid}
 use Rattle.monitor_claims.specs.MonitorPrintedOnceLaws.{lineFor}
-use Rattle.monitor_claims.specs.NodeLines.{linesIn, sameBytes, ofNode, nodeLines, ofPoint}
+use Rattle.monitor_claims.specs.NodeLines.{answersOf, linesIn, sameBytes, ofNode, nodeLines, ofPoint}
 use Rattle.monitor_claims.specs.NodeLinesLaws.{word-line, NoComma, own-line, other-line}
 
 -- ---- the lines of a node's answers and total, without their LFs
@@ -39,11 +39,7 @@ bodies (a ∷ rest) = body (a .node) (a .answer) (a .period) ∷ bodies rest
 abbrev pub totalBody : ℕ → ℕ → ℕ → List ℕ
 totalBody k points signals = totalWord ++ fields (k ∷ points ∷ signals ∷ [])
 
--- the answers, and the totals, that are the node's
-unfoldable pub answersOf : ℕ → List NodeAnswer → List NodeAnswer
-answersOf k [] = []
-answersOf k (a ∷ rest) = cond (eqb (a .node) k) (a ∷ answersOf k rest) (answersOf k rest)
-
+-- the totals that are the node's
 unfoldable pub totalBodies : ℕ → List NodeTotal → List (List ℕ)
 totalBodies k [] = []
 totalBodies k (t ∷ rest) = cond (eqb (t .node) k) (totalBody (t .node) (t .points) (t .signals) ∷ totalBodies k rest) (totalBodies k rest)

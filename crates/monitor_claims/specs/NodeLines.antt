@@ -116,6 +116,11 @@ aloneLines (a ∷ rest) = aloneLine a ++ aloneLines rest
 unfoldable pub aloneBytes : List Answer → List ℕ
 aloneBytes answers = aloneLines answers ++ (totalWord ++ field (length answers) ++ field (signalsIn answers) ++ newline)
 
+-- the answers that are the node's
+unfoldable pub answersOf : ℕ → List NodeAnswer → List NodeAnswer
+answersOf k [] = []
+answersOf k (a ∷ rest) = cond (eqb (a .node) k) (a ∷ answersOf k rest) (answersOf k rest)
+
 -- every point is of this node
 unfoldable pub OnlyNode : ℕ → List NodeReading → Type 0
 OnlyNode k [] = Unit {0}

@@ -19,7 +19,8 @@ use Rattle.monitor_claims.specs.MonitorOutput.{plainChart}
 use Rattle.monitor_claims.specs.MonitorOutput.{EachSaid}
 use Rattle.monitor_claims.specs.MonitorPrintedOnceLaws.{lineFor, plain-said}
 use Rattle.monitor_claims.specs.NodeLines.{nodeLines, withEnds}
-use Rattle.monitor_claims.specs.NodeBytesLaws.{body, bodies, answersOf, totalBodies, OneByOne, answers-of, totals-of}
+use Rattle.monitor_claims.specs.NodeBytesLaws.{body, bodies, totalBodies, OneByOne, answers-of, totals-of}
+use Rattle.monitor_claims.specs.NodeLines.{answersOf}
 use Rattle.monitor_claims.specs.IsolationLaws.{one-by-one}
 use Rattle.monitor_claims.specs.NodeLines.{OnlyNode}
 

@@ -15,7 +15,7 @@ use Rattle.monitor_report.specs.MonitorReport.{monitorPrinted}
 use Rattle.monitor_claims.specs.MonitorTexts.{MonitorTextIs}
 use Rattle.monitor_claims.specs.MonitorOutput.{EachSaid}
 use Rattle.monitor_claims.specs.NodeLines.{periodFields, countFrom}
-use Rattle.monitor_claims.specs.NodeBytesLaws.{answersOf}
+use Rattle.monitor_claims.specs.NodeLines.{answersOf}
 use Rattle.monitor_claims.specs.MonitorOutput.{NotRefused}
 use Rattle.monitor_claims.specs.IsolationLaws.{accepted-prints}
 use Rattle.monitor_claims.specs.NodeLines.{AddsUp}

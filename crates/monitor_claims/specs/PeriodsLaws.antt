@@ -27,7 +27,8 @@ use Rattle.monitor_claims.specs.MonitorOutput.{EachSaid}
 use Rattle.monitor_claims.specs.MonitorPrintedOnce.{monitor-read-off}
 use Rattle.monitor_claims.specs.NodeLines.{pointsIn, lastField, periodFields, countFrom}
 use Rattle.monitor_claims.specs.NodeLinesLaws.{point-kept, other-left, last-number}
-use Rattle.monitor_claims.specs.NodeBytesLaws.{plain, words, bodies, answersOf, totalBodies, inOrder, bench-of}
+use Rattle.monitor_claims.specs.NodeBytesLaws.{plain, words, bodies, totalBodies, inOrder, bench-of}
+use Rattle.monitor_claims.specs.NodeLines.{answersOf}
 use Rattle.monitor_claims.specs.IsolationLaws.{one-by-one, below, beyond, no-readings}
 use Rattle.monitor_claims.specs.NodeLines.{AddsUp}
 

@@ -30,7 +30,7 @@ fn exactly(answer: BracketAnswer) -> u64 {
     let BracketAnswer::Accepted(found) = answer else {
         return 0;
     };
-    let Bracket::At(n) = place else {
+    let Bracket::At(n) = found else {
         return 0;
     };
     n as u64

@@ -16,15 +16,6 @@ use Rattle.rules.specs.Refusal.{badRuleCount, badRuleBounds, badZoneSet}
 abbrev pub within : ℕ → ℕ → ℕ → Bool
 within low high x = cond (leb low x) (leb x high) false
 
--- the rule at the index i: 3 where m or k is out of bounds, else 4 where the zone set is
-abbrev pub checkRule : ℕ → Rule → Checked
-checkRule i r =
-    cond (within minWindow maxWindow (r .m))
-    (cond (within minHits (r .m) (r .k))
-    (cond (within minZoneSet maxZoneSet (r .zones)) Accepted (Refused (badZoneSet i)))
-    (Refused (badRuleBounds i)))
-    (Refused (badRuleBounds i))
-
 -- the first answer if it is a refusal, else the second
 abbrev pub orElse : Checked → Checked → Checked
 orElse Accepted next = next
@@ -33,6 +24,13 @@ orElse (Refused x) next = Refused x
 -- accepted where the test holds, else refused
 abbrev pub unless : Bool → Refusal → Checked
 unless t x = cond t Accepted (Refused x)
+
+-- the rule at the index i: 3 where m or k is out of bounds, else 4 where the zone set is
+abbrev pub checkRule : ℕ → Rule → Checked
+checkRule i r =
+    orElse (unless (within minWindow maxWindow (r .m)) (badRuleBounds i))
+    (orElse (unless (within minHits (r .m) (r .k)) (badRuleBounds i))
+    (unless (within minZoneSet maxZoneSet (r .zones)) (badZoneSet i)))
 
 -- rule by rule, the first of them standing at the index i
 unfoldable pub checkRules : ℕ → List Rule → Checked
@@ -53,4 +51,4 @@ abbrev pub activeRules : RuleList → List Rule
 activeRules l = rulesFrom (l .len) 0 (l .rules)
 
 unfoldable pub checkOf : RuleList → Checked
-checkOf l = cond (within minRules maxRules (l .len)) (checkRules 0 (activeRules l)) (Refused badRuleCount)
+checkOf l = orElse (unless (within minRules maxRules (l .len)) badRuleCount) (checkRules 0 (activeRules l))

@@ -13,7 +13,8 @@ use Rattle.rules.specs.declared.refusal.Refusal.{Refusal}
 use Rattle.rules.specs.declared.Checked.{Checked}
 use Rattle.rules.specs.declared.Checked.the-variants.{Accepted, Refused}
 use Rattle.rules.specs.Bounds.{minRules, maxRules, minWindow, maxWindow, minHits, minZoneSet, maxZoneSet}
-use Rattle.rules.specs.Check.{within, checkRule, orElse, checkRules, noRule, rulesFrom, activeRules, checkOf}
+use Rattle.rules.specs.Check.{within, checkRule, orElse, checkRules, noRule, rulesFrom, activeRules, checkOf, unless}
+use Rattle.rules.specs.Refusal.{badRuleCount, badRuleBounds, badZoneSet}
 use Rattle.rules.specs.InBounds.{InBounds, AllInBounds}
 
 -- ---- the rules from i up to n, the first of them apart
@@ -53,9 +54,9 @@ module _ (tag : Checked → ℕ) where
 
 -- ---- what an accepted list has
 
-passed : (t : Bool) (a : Checked) (x : Refusal) → cond t a (Refused x) ≡ Accepted → (t ≡ true) × (a ≡ Accepted)
-passed true a x e = (refl, e)
-passed false a x e = let z : _≡_ {A = ℕ} 0 1 = cc in absurd (omega arith)
+passes : (t : Bool) (x : Refusal) → unless t x ≡ Accepted → t ≡ true
+passes true x e = refl
+passes false x e = let z : _≡_ {A = ℕ} 0 1 = cc in absurd (omega arith)
 
 -- a number that passes is in the range
 pub between : (low high x : ℕ) → within low high x ≡ true → (low ≤ x) × (x ≤ high)
@@ -66,28 +67,32 @@ between low high x e = go (leb low x) refl e
     go false p q = let z : _≡_ {A = ℕ} 0 1 = cc in absurd (omega arith)
 
 -- two checks in a row accept where both do
-pub both : (a b : Checked) → orElse a b ≡ Accepted → (a ≡ Accepted) × (b ≡ Accepted)
-both Accepted b e = (refl, e)
-both (Refused x) b e = let z : _≡_ {A = ℕ} 0 1 = cc in absurd (omega arith)
+pub both-accept : (a b : Checked) → orElse a b ≡ Accepted → (a ≡ Accepted) × (b ≡ Accepted)
+both-accept Accepted b e = (refl, e)
+both-accept (Refused x) b e = let z : _≡_ {A = ℕ} 0 1 = cc in absurd (omega arith)
 
 in-bounds : (i : ℕ) (r : Rule) → checkRule i r ≡ Accepted → InBounds r
 in-bounds i r e =
-    let p = passed (within minWindow maxWindow (r .m)) _ _ e in
-    let q = passed (within minHits (r .m) (r .k)) _ _ (p .1) in
-    let s = passed (within minZoneSet maxZoneSet (r .zones)) _ _ (q .1) in
-    let m = between minWindow maxWindow (r .m) (p .0) in
-    let k = between minHits (r .m) (r .k) (q .0) in
-    let z = between minZoneSet maxZoneSet (r .zones) (s .0) in
+    let window = within minWindow maxWindow (r .m) in
+    let hits = within minHits (r .m) (r .k) in
+    let zones = within minZoneSet maxZoneSet (r .zones) in
+    let rest = unless zones (badZoneSet i) in
+    let p = both-accept (unless window (badRuleBounds i)) (orElse (unless hits (badRuleBounds i)) rest) e in
+    let q = both-accept (unless hits (badRuleBounds i)) rest (p .1) in
+    let m = between minWindow maxWindow (r .m) (passes window (badRuleBounds i) (p .0)) in
+    let k = between minHits (r .m) (r .k) (passes hits (badRuleBounds i) (q .0)) in
+    let z = between minZoneSet maxZoneSet (r .zones) (passes zones (badZoneSet i) (q .1)) in
     record { some-hits = k .0; hits-fit = k .1; window = m .1; some-zone = z .0; zone-set = z .1 }
 
 all-in-bounds : (i : ℕ) (rs : List Rule) → checkRules i rs ≡ Accepted → AllInBounds rs
 unfolding checkRules AllInBounds
 all-in-bounds i [] e = tt
-all-in-bounds i (r ∷ rs) e = let p = both (checkRule i r) (checkRules (i + 1) rs) e in (in-bounds i r (p .0), all-in-bounds (i + 1) rs (p .1))
+all-in-bounds i (r ∷ rs) e = let p = both-accept (checkRule i r) (checkRules (i + 1) rs) e in (in-bounds i r (p .0), all-in-bounds (i + 1) rs (p .1))
 
 pub accepted : (l : RuleList) → checkOf l ≡ Accepted → (minRules ≤ l .len) × (l .len ≤ maxRules) × AllInBounds (activeRules l)
 unfolding checkOf
 accepted l e =
-    let p = passed (within minRules maxRules (l .len)) (checkRules 0 (activeRules l)) _ e in
-    let q = between minRules maxRules (l .len) (p .0) in
+    let fits = within minRules maxRules (l .len) in
+    let p = both-accept (unless fits badRuleCount) (checkRules 0 (activeRules l)) e in
+    let q = between minRules maxRules (l .len) (passes fits badRuleCount (p .0)) in
     (q .0, q .1, all-in-bounds 0 (activeRules l) (p .1))

@@ -1,7 +1,7 @@
 -- By which numbers a rule list is refused; and what a refusal of several checks in a row is. Laws.
 use Prim.Native.Nat.{ℕ, _+_}
 use mathlib.Core.Path.{_≡_, ap}
-use mathlib.Core.Bool.{Bool, true, false, cond}
+use mathlib.Core.Bool.{Bool, true, false}
 use mathlib.Core.Logic.{_⊎_, inl, inr, ⊎-elim}
 use mathlib.Core.List.{List, [], _∷_}
 use native.Mathlib.Omega.{arith}
@@ -25,11 +25,6 @@ pub on-both : (ns : List ℕ) (a b : Checked) (x : Refusal) → (a ≡ Refused x
     → orElse a b ≡ Refused x → OneOf ns (x .number)
 on-both ns a b x f g e = ⊎-elim f g (either a b x e)
 
--- a test that refuses
-pub tested : (t : Bool) (a : Checked) (y x : Refusal) → cond t a (Refused y) ≡ Refused x → (a ≡ Refused x) ⊎ (x .number ≡ y .number)
-tested true a y x e = inl e
-tested false a y x e = let q : x ≡ y = cc in inr (ap (λ (r : Refusal). r .number) q)
-
 pub not-both : {A : Type 0} (x : Refusal) → Accepted ≡ Refused x → A
 not-both x e = absurd (let z : _≡_ {A = ℕ} 0 1 = cc in omega arith)
 
@@ -42,18 +37,12 @@ refused-by false y x e = let q : x ≡ y = cc in ap (λ (r : Refusal). r .number
 
 rule-number : (i : ℕ) (r : Rule) (x : Refusal) → checkRule i r ≡ Refused x → OneOf ruleNumbers (x .number)
 rule-number i r x e =
-    ⊎-elim
-    (λ (e : cond (within minHits (r .m) (r .k)) (cond (within minZoneSet maxZoneSet (r .zones)) Accepted (Refused (badZoneSet i))) (Refused (badRuleBounds i)) ≡ Refused x).
-    ⊎-elim
-    (λ (e : cond (within minZoneSet maxZoneSet (r .zones)) Accepted (Refused (badZoneSet i)) ≡ Refused x).
-    ⊎-elim
-    (λ (e : Accepted ≡ Refused x). not-both x e)
-    (λ (q : x .number ≡ badZoneSet i .number). there (there (here q)))
-    (tested (within minZoneSet maxZoneSet (r .zones)) Accepted (badZoneSet i) x e))
-    (λ (q : x .number ≡ badRuleBounds i .number). there (here q))
-    (tested (within minHits (r .m) (r .k)) _ (badRuleBounds i) x e))
-    (λ (q : x .number ≡ badRuleBounds i .number). there (here q))
-    (tested (within minWindow maxWindow (r .m)) _ (badRuleBounds i) x e)
+    let window = within minWindow maxWindow (r .m) in
+    let hits = within minHits (r .m) (r .k) in
+    let zones = within minZoneSet maxZoneSet (r .zones) in
+    on-both _ (unless window (badRuleBounds i)) _ x (λ q. there (here (refused-by window (badRuleBounds i) x q)))
+    (on-both _ (unless hits (badRuleBounds i)) _ x (λ q. there (here (refused-by hits (badRuleBounds i) x q)))
+    (λ q. there (there (here (refused-by zones (badZoneSet i) x q))))) e
 
 rules-number : (i : ℕ) (rs : List Rule) (x : Refusal) → checkRules i rs ≡ Refused x → OneOf ruleNumbers (x .number)
 unfolding checkRules
@@ -63,7 +52,5 @@ rules-number i (r ∷ rs) x e = on-both _ (checkRule i r) (checkRules (i + 1) rs
 pub list-number : (l : RuleList) (x : Refusal) → checkOf l ≡ Refused x → OneOf ruleNumbers (x .number)
 unfolding checkOf
 list-number l x e =
-    ⊎-elim
-    (λ (e : checkRules 0 (activeRules l) ≡ Refused x). rules-number 0 (activeRules l) x e)
-    (λ (q : x .number ≡ badRuleCount .number). here q)
-    (tested (within minRules maxRules (l .len)) _ badRuleCount x e)
+    let fits = within minRules maxRules (l .len) in
+    on-both _ (unless fits badRuleCount) _ x (λ q. here (refused-by fits badRuleCount x q)) (rules-number 0 (activeRules l) x) e

@@ -1,5 +1,5 @@
 -- TO BELIEVE: the table of the normal area, and what is shown of all its entries. Definitions.
--- The numbers themselves are tested, against a printed table and by reckoning each of them anew.
+-- The numbers themselves are tested, against a printed table and by computing each of them anew.
 use Prim.Native.Nat.{ℕ, _+_, _^_, _≤_, _<_}
 use mathlib.Core.Path.{_≡_}
 use mathlib.Core.List.{List, [], _∷_}

@@ -68,9 +68,9 @@ module _ (t : ℕ) (h : t ≤ 2 * maxShift) where
         within = below-within (900 - t) (omega arith);
       }
 
-  -- as they are reckoned
-  abbrev reckoned : ZoneWeights
-  reckoned = record {
+  -- as they are computed
+  abbrev computed : ZoneWeights
+  computed = record {
     s = weightTotal - (belowOf (900 - t) - belowOf (300 - t));
     a1 = belowOf (900 - t) - belowOf (800 - t);
     b1 = belowOf (800 - t) - belowOf (700 - t);
@@ -81,7 +81,7 @@ module _ (t : ℕ) (h : t ≤ 2 * maxShift) where
     c0 = 0;
   }
 
-  six-areas : SixAreas (subℕ t maxShift) reckoned
+  six-areas : SixAreas (subℕ t maxShift) computed
   six-areas =
       record {
         a1-is = sym (between-below t 500 600 h (lit≤ tt) (lit≤ tt));
@@ -92,18 +92,18 @@ module _ (t : ℕ) (h : t ≤ 2 * maxShift) where
         a2-is = sym (between-below t 0 100 h (lit≤ tt) (lit≤ tt));
       }
 
-  inside : reckoned .a1 + reckoned .b1 + reckoned .c1 + reckoned .c2 + reckoned .b2 + reckoned .a2 ≡ belowOf (900 - t) - belowOf (300 - t)
+  inside : computed .a1 + computed .b1 + computed .c1 + computed .c2 + computed .b2 + computed .a2 ≡ belowOf (900 - t) - belowOf (300 - t)
   inside = let r = limits-rise in telescope _ _ _ _ _ _ _ (r .to-a2) (r .to-b2) (r .to-c2) (r .to-c1) (r .to-b1) (r .to-a1)
 
-  pub weights-reckoned : weightsOf (subℕ t maxShift) ≡ reckoned
+  pub weights-computed : weightsOf (subℕ t maxShift) ≡ computed
   unfolding weightsOf
-  weights-reckoned =
+  weights-computed =
       let x = six-areas in
       rw (← (x .a1-is), ← (x .b1-is), ← (x .c1-is), ← (x .c2-is), ← (x .b2-is), ← (x .a2-is), inside)
 
   -- ---- and what is claimed of them
 
-  six-positive : SixPositive reckoned
+  six-positive : SixPositive computed
   six-positive =
       let r = limits-rise in
       record {
@@ -115,7 +115,7 @@ module _ (t : ℕ) (h : t ≤ 2 * maxShift) where
         a2-some = omega (arith, r .to-a2);
       }
 
-  pub whole : Whole reckoned
+  pub whole : Whole computed
   whole =
       let r = limits-rise in
       record {
@@ -139,7 +139,7 @@ module _ (t : ℕ) (h : t ≤ 2 * maxShift) where
       let o = outer-below (i - t) 100 (omega arith) (omega arith) in
       omega (arith, o, ap belowOf up, ap belowOf down)
 
-  falls : FallsOutwards (subℕ t maxShift) reckoned
+  falls : FallsOutwards (subℕ t maxShift) computed
   falls =
       record {
         a1-b1 = above 800 (omega arith) (lit≤ tt);
@@ -158,7 +158,7 @@ module _ (t : ℕ) (h : t ≤ 2 * maxShift) where
       at-least (negsuc m) a b (suc n) e l = omega (arith, leb→le m n (l .le))
 
   shifted-at : Shifted (subℕ t maxShift) (weightsOf (subℕ t maxShift))
-  shifted-at = rw weights-reckoned (record { areas = six-areas; positive = six-positive; whole = whole; falls = falls })
+  shifted-at = rw weights-computed (record { areas = six-areas; positive = six-positive; whole = whole; falls = falls })
 
 -- ---- the operation
 

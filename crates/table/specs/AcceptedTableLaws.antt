@@ -11,7 +11,7 @@ use borrow.Author.Tests.{leb-true}
 use Rattle.rules.specs.declared.Checked.{Checked}
 use Rattle.rules.specs.declared.Checked.the-variants.{Accepted, Refused}
 use Rattle.rules.specs.Refusal.{shortList}
-use Rattle.rules.specs.CheckLaws.{both}
+use Rattle.rules.specs.CheckLaws.{both-accept}
 use Rattle.runlength.specs.Scale.{unitsPerOne}
 use Rattle.runlength.specs.Sum.{at, sum, tab, front}
 use Rattle.runlength.specs.SumLaws.{sum-cong, sum-le, sum-const}
@@ -103,8 +103,8 @@ accepted-table t f e = go (tableCheck t) refl
     go : (c : Checked) → tableCheck t ≡ c → AcceptedTable t f
     go Accepted q =
         let r : tableOf t ≡ filled (chainOf t) t = rw q in
-        let a = both (chainCheck (t .list) (t .weights) (t .horizon)) _ q in
-        let b = both (unless (leb (t .horizon) (length (t .pmfBefore))) shortList) _ (a .1) in
+        let a = both-accept (chainCheck (t .list) (t .weights) (t .horizon)) _ q in
+        let b = both-accept (unless (leb (t .horizon) (length (t .pmfBefore))) shortList) _ (a .1) in
         let same : f ≡ figuresOf (chainOf t) (t .horizon) = cc (ap (λ (x : CallResult TableAnswer). x .answer) r) in
         rw same
         (left-figures t (accepted-chain (t .list) (t .weights) (t .horizon) (a .0)) (leb-true _ _ (passed _ shortList (b .0)))

@@ -12,7 +12,7 @@ use Rattle.rules.specs.declared.Checked.the-variants.{Accepted, Refused}
 use Rattle.rules.specs.Bounds.{zoneCount, maxStates}
 use Rattle.rules.specs.Refusal.{badWeights, badHorizon, tooManyStates}
 use Rattle.rules.specs.Check.{within, unless, activeRules, checkOf}
-use Rattle.rules.specs.CheckLaws.{both, between, accepted}
+use Rattle.rules.specs.CheckLaws.{both-accept, between, accepted}
 use Rattle.runlength.specs.Scale.{minHorizon, maxHorizon, weightTotal}
 use Rattle.runlength.specs.Sum.{at, sum}
 use Rattle.chain.specs.TableChain.{exploredCount}
@@ -79,9 +79,9 @@ passed false x e = let z : _≡_ {A = ℕ} 0 1 = cc in absurd (omega arith)
 pub accepted-chain : (l : RuleList) (w : List ℕ) (h : ℕ) → chainCheck l w h ≡ Accepted → AcceptedChain l w h
 unfolding chainCheck
 accepted-chain l w h e =
-    let a = both (checkOf l) _ e in
-    let b = both (unless (eqb (sum zoneCount (at w)) weightTotal) badWeights) _ (a .1) in
-    let c = both (unless (within minHorizon maxHorizon h) badHorizon) _ (b .1) in
+    let a = both-accept (checkOf l) _ e in
+    let b = both-accept (unless (eqb (sum zoneCount (at w)) weightTotal) badWeights) _ (a .1) in
+    let c = both-accept (unless (within minHorizon maxHorizon h) badHorizon) _ (b .1) in
     let g = between minHorizon maxHorizon h (passed _ badHorizon (c .0)) in
     record {
       rules = a .0;

@@ -3,7 +3,7 @@ use borrow.Author.Needs.{needs}
 use native.Mathlib.Omega.{arith}
 use mathlib.Core.Path.{refl, sym}
 use Rattle.shift.specs.Area.{areas}
-use Rattle.shift.specs.ShiftLaws.{Rising, limits-rise, weights-reckoned}
+use Rattle.shift.specs.ShiftLaws.{Rising, limits-rise, weights-computed}
 use Rattle.shift.proofs.weights_at.Statement.{statement}
 use Rattle.shift.proofs.weights_at.Tie as tie
 
@@ -123,7 +123,7 @@ returns c =
       c6 .below6 .ensures,
       c .below7 .ensures,
     )
-    (sym (weights-reckoned t (omega arith)))
+    (sym (weights-computed t (omega arith)))
 
 pub weights-at-spec : {M : Type 1} → statement M
 weights-at-spec =

@@ -6,33 +6,34 @@ use native.Mathlib.Omega.{arith}
 use borrow.Author.Needs.{needs}
 use borrow.Author.Tests.{not-true, not-false}
 use Rattle.rules.specs.declared.Rule.{Rule}
+use Rattle.rules.specs.declared.refusal.Refusal.{Refusal}
 use Rattle.rules.specs.declared.Checked.{Checked}
 use Rattle.rules.specs.declared.Checked.the-variants.{Accepted, Refused}
 use Rattle.rules.specs.Bounds.{minWindow, maxWindow, minHits, minZoneSet, maxZoneSet}
-use Rattle.rules.specs.Check.{within, checkRule}
+use Rattle.rules.specs.Check.{within, orElse, unless, checkRule}
 use Rattle.rules.specs.Refusal.{badRuleBounds, badZoneSet}
 use Rattle.rules.proofs.Rule.check.Statement.{statement}
 use Rattle.rules.proofs.Rule.check.Tie as tie
 
 -- two tests that refuse alike: one fails, or both pass
-one-fails : (x y : Bool) (a b : Checked) → not (x && y) ≡ true → cond x (cond y a b) b ≡ b
-one-fails true true a b e = let z : _≡_ {A = ℕ} 0 1 = cc in absurd (omega arith)
-one-fails true false a b e = refl
-one-fails false y a b e = refl
+one-fails : (x y : Bool) (u : Refusal) (rest : Checked) → not (x && y) ≡ true → orElse (unless x u) (orElse (unless y u) rest) ≡ Refused u
+one-fails true true u rest e = let z : _≡_ {A = ℕ} 0 1 = cc in absurd (omega arith)
+one-fails true false u rest e = refl
+one-fails false y u rest e = refl
 
-both-pass : (x y : Bool) (a b : Checked) → not (x && y) ≡ false → cond x (cond y a b) b ≡ a
-both-pass true true a b e = refl
-both-pass true false a b e = let z : _≡_ {A = ℕ} 0 1 = cc in absurd (omega arith)
-both-pass false y a b e = let z : _≡_ {A = ℕ} 0 1 = cc in absurd (omega arith)
+both-pass : (x y : Bool) (u : Refusal) (rest : Checked) → not (x && y) ≡ false → orElse (unless x u) (orElse (unless y u) rest) ≡ rest
+both-pass true true u rest e = refl
+both-pass true false u rest e = let z : _≡_ {A = ℕ} 0 1 = cc in absurd (omega arith)
+both-pass false y u rest e = let z : _≡_ {A = ℕ} 0 1 = cc in absurd (omega arith)
 
 -- the three tests, by what they answered
 module _ (i : ℕ) (r : Rule) {window hits zones : Bool} (w : window ≡ within minWindow maxWindow (r .m))
     (h : hits ≡ within minHits (r .m) (r .k)) (z : zones ≡ within minZoneSet maxZoneSet (r .zones)) where
   bad-bounds : not (window && hits) ≡ true → Refused (badRuleBounds i) ≡ checkRule i r
-  bad-bounds t = sym (rw (← w, ← h) (one-fails window hits _ _ t))
+  bad-bounds t = sym (rw (← w, ← h) (one-fails window hits (badRuleBounds i) (unless (within minZoneSet maxZoneSet (r .zones)) (badZoneSet i)) t))
 
   good-bounds : not (window && hits) ≡ false → cond zones Accepted (Refused (badZoneSet i)) ≡ checkRule i r
-  good-bounds t = sym (rw (← w, ← h, ← z) (both-pass window hits _ _ t))
+  good-bounds t = sym (rw (← w, ← h, ← z) (both-pass window hits (badRuleBounds i) (unless zones (badZoneSet i)) t))
 
 within-requires : tie.Need-within-requires
 within-requires c κs = search needs
