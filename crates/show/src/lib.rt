@@ -1,6 +1,10 @@
-// Printing words, numbers and refusals, for the test programs.
+// Printing words, numbers, rule lists and refusals, for the test programs.
 use libc::STDOUT_FILENO;
 use rules::Refusal;
+ghost use Prim.Native.Nat.{_≤_};
+ghost use lib.ListN.{length};
+
+pub mod lists;
 
 pub fn text(words: &[u8]) {
     io::write_all(STDOUT_FILENO, words);
@@ -9,6 +13,16 @@ pub fn text(words: &[u8]) {
 pub fn number(before: &[u8], n: u64) {
     text(before);
     io::print_decimal(STDOUT_FILENO, n);
+}
+
+// The numbers with commas between them.
+pub fn numbers(before: &[u8], ns: &[u64])
+    requires { ⌜ 1 ≤ length (now ns) ⌝ }
+{
+    number(before, ns[0]);
+    for i in 1..ns.len() {
+        number(b",", ns[i]);
+    }
 }
 
 pub fn refusal(r: Refusal) {

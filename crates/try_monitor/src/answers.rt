@@ -1,12 +1,29 @@
-// Printing answers.
+// Printing numbers and answers.
 use monitor::Monitor;
 use monitor::Step;
 use monitor::zone::ZoneAnswer;
 use rules::Checked;
-use rules::Rule;
 use show::number;
 use show::refusal;
 use show::text;
+
+// 2^31.
+const SIGN: u64 = 2147483648;
+
+// A signed number as an unsigned one, 2^31 higher.
+fn raised(n: i32) -> u64 {
+    ((n as i64) + 2147483648) as u64
+}
+
+pub fn signed(before: &[u8], n: i32) {
+    let high = raised(n);
+    text(before);
+    if high < SIGN {
+        number(b"-", SIGN - high);
+    } else {
+        number(b"", high - SIGN);
+    }
+}
 
 pub fn zoned(answer: ZoneAnswer) {
     match answer {
@@ -31,15 +48,15 @@ pub fn checked(answer: Checked) {
     }
 }
 
-pub fn rule(r: Rule) {
-    number(b" ", r.k as u64);
-    number(b",", r.m as u64);
-    number(b",", r.zones as u64);
+pub fn state(m: Monitor) {
+    number(b" state ", m.state);
+    number(b" count ", m.count as u64);
 }
 
-fn monitor_at(m: Monitor) {
-    number(b" then state ", m.state);
-    number(b" count ", m.count as u64);
+fn then(before: &[u8], n: u32, m: Monitor) {
+    number(before, n as u64);
+    text(b" then");
+    state(m);
     text(b"\n");
 }
 
@@ -51,14 +68,12 @@ pub fn step(given: Monitor, answer: Step) -> Monitor {
             given
         }
         Step::Quiet { count, next } => {
-            number(b" quiet ", count as u64);
-            monitor_at(next);
+            then(b" quiet ", count, next);
             next
         }
         Step::Signal { count, mask, next } => {
             number(b" signal ", count as u64);
-            number(b" mask ", mask as u64);
-            monitor_at(next);
+            then(b" mask ", mask, next);
             next
         }
     }

@@ -7,24 +7,22 @@ mod steps;
 mod zones;
 
 fn main() {
-    show::text(b"zones of document 01, centre 100, sigma 10\n");
-    zones::examples();
-    show::text(b"zones at the extremes\n");
-    zones::extremes();
-    show::text(b"refusal 1\n");
-    zones::refusals();
-    show::text(b"ready lists\n");
-    checks::ready_lists();
-    show::text(b"refusals 2, 3 and 4\n");
-    checks::refusals();
-    show::text(b"Western Electric on 121, 100, 121, 121\n");
-    steps::example();
-    show::text(b"two hits in the first two points meet 2 of 3\n");
-    steps::early_signal();
-    show::text(b"a signal clears every rule\n");
-    steps::reset_all();
-    show::text(b"refusals 5, 6 and 7\n");
-    steps::refusals();
-    show::text(b"a state that no sequence meets is stepped by the same rule\n");
-    steps::unmet_state();
+    zones::run(
+        b"zones of document 01, centre 100, sigma 10\n",
+        0,
+        zones::EXAMPLES,
+    );
+    zones::run(b"zones at the extremes\n", zones::EXAMPLES, zones::EXTREMES);
+    zones::run(b"refusal 1\n", zones::EXTREMES, zones::ALL);
+    checks::ready_lists(b"ready lists\n");
+    checks::run(b"refusals 2, 3 and 4\n");
+    steps::example(b"Western Electric on 121, 100, 121, 121\n");
+    steps::early_signal(b"two hits in the first two points meet 2 of 3\n");
+    steps::reset_all(b"a signal clears every rule\n");
+    steps::run(b"refusals 5, 6 and 7\n", 0, steps::REFUSALS);
+    steps::run(
+        b"a state that no sequence meets is stepped by the same rule\n",
+        steps::REFUSALS,
+        steps::ALL,
+    );
 }

@@ -1,142 +1,125 @@
 // The monitor's step.
 use crate::answers;
-use crate::checks::list_of;
 use monitor::Monitor;
 use monitor::zone::ZoneAnswer;
 use monitor::zone::zone_of;
 use rules::Rule;
 use rules::RuleList;
+use show::lists;
+ghost use Prim.Native.Nat.{_≤_, _<_};
 
-fn point(name: &[u8], m: Monitor, l: RuleList, zone: u32) -> Monitor {
-    show::text(name);
-    answers::step(m, m.step(l, zone))
+// What stands in the slots that no case looks at.
+const NONE: Rule = Rule {
+    k: 0,
+    m: 0,
+    zones: 0,
+};
+
+const LAST: u64 = 4294967295;
+
+// Where a group of cases ends and the next begins.
+pub const REFUSALS: usize = 22;
+
+pub const ALL: usize = 25;
+
+// A list, in a row as `show` takes it; then the state, the count and the zone of the point.
+const CASES: [[u64; 10]; ALL] = [
+    // The bounds of the zone.
+    [2, 3, 2, 0, 0, 0, 1, 0, 0, 7],
+    [2, 3, 2, 0, 0, 0, 1, 0, 0, 8],
+    [2, 3, 2, 0, 0, 0, 1, 0, 0, LAST],
+    // 1 hit of 2, 2 hits of 2; a hit of age 2 in 3, of age 3 in 3; with 3,3 hits of age 1 and 2, a hit of age 2 alone.
+    [2, 3, 2, 0, 0, 0, 1, 1, 9, 3],
+    [2, 3, 2, 0, 0, 0, 1, 3, 9, 3],
+    [2, 3, 2, 0, 0, 0, 1, 2, 9, 3],
+    [2, 3, 2, 0, 0, 0, 1, 4, 9, 3],
+    [3, 3, 2, 0, 0, 0, 1, 3, 9, 3],
+    [3, 3, 2, 0, 0, 0, 1, 2, 9, 3],
+    // A hit of age 2 in 2 points, in 1 point; a hit in no points.
+    [2, 3, 2, 0, 0, 0, 1, 2, 2, 3],
+    [2, 3, 2, 0, 0, 0, 1, 2, 1, 3],
+    [2, 3, 2, 0, 0, 0, 1, 1, 0, 3],
+    // A hit in window 1 with 1 rule, with 2 rules; in window 7.
+    [2, 3, 2, 0, 0, 0, 1, 256, 9, 3],
+    [2, 3, 2, 2, 3, 4, 2, 256, 9, 3],
+    [2, 3, 2, 0, 0, 0, 1, 72057594037927936, 9, 3],
+    // The bounds of the count; the last count where the point would signal.
+    [2, 3, 2, 0, 0, 0, 1, 0, 4294967294, 3],
+    [2, 3, 2, 0, 0, 0, 1, 0, LAST, 3],
+    [1, 1, 255, 0, 0, 0, 1, 0, LAST, 0],
+    // The order: the last count with a bad state, with a bad zone; a bad state with a bad zone; a bad list with all of them.
+    [2, 3, 2, 0, 0, 0, 1, 3, LAST, 3],
+    [2, 3, 2, 0, 0, 0, 1, 0, LAST, 8],
+    [2, 3, 2, 0, 0, 0, 1, 3, 9, 8],
+    [0, 3, 2, 0, 0, 0, 1, 3, LAST, 8],
+    // With 2,2 on A1 and 2,2 on A2 both windows cannot have a hit of age 1; the state passes all the same. C1, A1, A2.
+    [2, 2, 2, 2, 2, 64, 2, 257, 9, 3],
+    [2, 2, 2, 2, 2, 64, 2, 257, 9, 1],
+    [2, 2, 2, 2, 2, 64, 2, 257, 9, 6],
+];
+
+fn row(i: usize) -> [u64; 10]
+    requires { ⌜ i < 25 ⌝ }
+{
+    CASES[i]
 }
 
-// The zone of a reading on the chart 100,10, and the step there.
-fn reading(name: &[u8], m: Monitor, l: RuleList, r: i32) -> Monitor {
-    let zoned = zone_of(r, 100, 10);
-    match zoned {
-        ZoneAnswer::Zone(z) => point(name, m, l, z),
-        ZoneAnswer::Refused(_) => m,
+fn one(row: [u64; 10]) {
+    let l = lists::listed(&row, NONE);
+    let m = Monitor {
+        state: row[7],
+        count: lists::narrow(row[8]),
+    };
+    answers::state(m);
+    show::number(b" zone ", row[9]);
+    answers::step(m, m.step(l, lists::narrow(row[9])));
+}
+
+pub fn run(heading: &[u8], from: usize, to: usize)
+    requires { ⌜ to ≤ 25 ⌝ }
+{
+    show::text(heading);
+    for i in from..to {
+        one(row(i));
     }
 }
 
-pub fn example() {
-    let l = RuleList::western_electric();
-    let m = Monitor::fresh();
-    let m = reading(b"121", m, l, 121);
-    let m = reading(b"100", m, l, 100);
-    let m = reading(b"121", m, l, 121);
-    let m = reading(b"121", m, l, 121);
-    reading(b"131", m, l, 131);
+// The zone of a reading on the chart 100,10, and the step there.
+fn reading(m: Monitor, l: RuleList, r: i32) -> Monitor {
+    let ZoneAnswer::Zone(z) = zone_of(r, 100, 10) else {
+        return m;
+    };
+    answers::signed(b"", r);
+    show::number(b" zone ", z as u64);
+    answers::step(m, m.step(l, z))
 }
 
-pub fn early_signal() {
-    let l = list_of(Rule::new(2, 3, 2), Rule::new(0, 0, 0), 1);
-    let m = point(b"A1", Monitor::fresh(), l, monitor::ZONE_A1);
-    point(b"A1", m, l, monitor::ZONE_A1);
+// Each reading in turn, from a fresh monitor.
+fn readings(l: RuleList, rs: &[i32]) {
+    let mut m = Monitor::fresh();
+    for i in 0..rs.len() {
+        m = reading(m, l, rs[i]);
+    }
 }
 
-// Rule 0 is 2,3 on A1 and rule 1 is 3,9 on A1 and B1: rule 1 signals, and rule 0 forgets its hit too, so one more A1 stays quiet.
-pub fn reset_all() {
-    let l = list_of(Rule::new(2, 3, 2), Rule::new(3, 9, 6), 2);
-    let m = point(b"B1", Monitor::fresh(), l, monitor::ZONE_B1);
-    let m = point(b"B1", m, l, monitor::ZONE_B1);
-    let m = point(b"A1", m, l, monitor::ZONE_A1);
-    let m = point(b"A1", m, l, monitor::ZONE_A1);
-    point(b"A1", m, l, monitor::ZONE_A1);
+pub fn example(heading: &[u8]) {
+    show::text(heading);
+    readings(RuleList::western_electric(), &[121, 100, 121, 121, 131]);
 }
 
-// A step with one rule, from the state and count given.
-fn alone(name: &[u8], rule: Rule, state: u64, count: u32, zone: u32) {
-    let l = list_of(rule, Rule::new(0, 0, 0), 1);
-    point(name, Monitor { state, count }, l, zone);
+// Two points in A1.
+pub fn early_signal(heading: &[u8]) {
+    show::text(heading);
+    let l = lists::listed(&[2, 3, 2, 0, 0, 0, 1], NONE);
+    show::text(b"\n");
+    readings(l, &[121, 121]);
 }
 
-// A step with two rules.
-fn pair(name: &[u8], first: Rule, second: Rule, state: u64, zone: u32) {
-    point(
-        name,
-        Monitor { state, count: 9 },
-        list_of(first, second, 2),
-        zone,
-    );
-}
-
-const LAST: u32 = 4294967295;
-
-fn of_zones() {
-    let r = Rule::new(2, 3, 2);
-    alone(b"zone 7", r, 0, 0, 7);
-    alone(b"zone 8", r, 0, 0, 8);
-    alone(b"zone 4294967295", r, 0, 0, LAST);
-}
-
-fn of_hits() {
-    let r = Rule::new(2, 3, 2);
-    alone(b"1 hit of 2", r, 1, 9, 3);
-    alone(b"2 hits of 2", r, 3, 9, 3);
-    alone(b"a hit of age 2 in 3", r, 2, 9, 3);
-    alone(b"a hit of age 3 in 3", r, 4, 9, 3);
-    alone(b"3,3: hits of age 1 and 2", Rule::new(3, 3, 2), 3, 9, 3);
-    alone(b"3,3: a hit of age 2 alone", Rule::new(3, 3, 2), 2, 9, 3);
-}
-
-fn of_ages() {
-    let r = Rule::new(2, 3, 2);
-    alone(b"a hit of age 2, 2 points", r, 2, 2, 3);
-    alone(b"a hit of age 2, 1 point", r, 2, 1, 3);
-    alone(b"a hit, no points", r, 1, 0, 3);
-}
-
-fn of_windows() {
-    let r = Rule::new(2, 3, 2);
-    alone(b"a hit in window 1, 1 rule", r, 256, 9, 3);
-    pair(b"a hit in window 1, 2 rules", r, Rule::new(2, 3, 4), 256, 3);
-    alone(b"a hit in window 7", r, 72057594037927936, 9, 3);
-}
-
-fn of_counts() {
-    let r = Rule::new(2, 3, 2);
-    alone(b"count 4294967294", r, 0, 4294967294, 3);
-    alone(b"count 4294967295", r, 0, LAST, 3);
-    alone(
-        b"count 4294967295 where it would signal",
-        Rule::new(1, 1, 255),
-        0,
-        LAST,
-        0,
-    );
-}
-
-fn order() {
-    let r = Rule::new(2, 3, 2);
-    alone(b"count 4294967295 with a bad state", r, 3, LAST, 3);
-    alone(b"count 4294967295 with a bad zone", r, 0, LAST, 8);
-    alone(b"a bad state with a bad zone", r, 3, 9, 8);
-    alone(
-        b"a bad list with all of them",
-        Rule::new(0, 3, 2),
-        3,
-        LAST,
-        8,
-    );
-}
-
-pub fn refusals() {
-    of_zones();
-    of_hits();
-    of_ages();
-    of_windows();
-    of_counts();
-    order();
-}
-
-// With rules 2,2 on A1 and 2,2 on A2 both windows cannot have a hit of age 1; the state passes all the same.
-pub fn unmet_state() {
-    let first = Rule::new(2, 2, 2);
-    let second = Rule::new(2, 2, 64);
-    pair(b"C1", first, second, 257, monitor::ZONE_C1);
-    pair(b"A1", first, second, 257, monitor::ZONE_A1);
-    pair(b"A2", first, second, 257, monitor::ZONE_A2);
+// Rule 0 is 2,3 on A1 and rule 1 is 3,9 on A1 and B1. The points are in B1, B1, A1, A1, A1: rule 1 signals, and rule 0 forgets its hit too,
+// so one more A1 stays quiet.
+pub fn reset_all(heading: &[u8]) {
+    show::text(heading);
+    let l = lists::listed(&[2, 3, 2, 3, 9, 6, 2], NONE);
+    show::text(b"\n");
+    readings(l, &[111, 111, 121, 121, 121]);
 }

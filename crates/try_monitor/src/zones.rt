@@ -1,85 +1,84 @@
 // The zone of a reading.
 use crate::answers;
 use monitor::zone::zone_of;
+ghost use Prim.Native.Nat.{_≤_, _<_};
 
-fn reading(name: &[u8], r: i32, c: i32, sigma: u32) {
-    show::text(name);
-    answers::zoned(zone_of(r, c, sigma));
+// A reading, the centre line, sigma.
+struct Case(i32, i32, u32);
+
+const LOWEST: i32 = -2147483648;
+
+const HIGHEST: i32 = 2147483647;
+
+// Where a group of cases ends and the next begins.
+pub const EXAMPLES: usize = 13;
+
+pub const EXTREMES: usize = 31;
+
+pub const ALL: usize = 36;
+
+const CASES: [Case; ALL] = [
+    // Document 01's examples.
+    Case(131, 100, 10),
+    Case(130, 100, 10),
+    Case(120, 100, 10),
+    Case(111, 100, 10),
+    Case(110, 100, 10),
+    Case(101, 100, 10),
+    Case(100, 100, 10),
+    Case(99, 100, 10),
+    Case(90, 100, 10),
+    Case(89, 100, 10),
+    Case(79, 100, 10),
+    Case(70, 100, 10),
+    Case(69, 100, 10),
+    // As far apart as can be.
+    Case(HIGHEST, LOWEST, 1),
+    Case(HIGHEST, LOWEST, 65535),
+    Case(LOWEST, HIGHEST, 1),
+    Case(LOWEST, HIGHEST, 65535),
+    // On the centre line at both ends, and one beside it.
+    Case(LOWEST, LOWEST, 1),
+    Case(-2147483647, LOWEST, 1),
+    Case(LOWEST, -2147483647, 1),
+    Case(HIGHEST, HIGHEST, 65535),
+    Case(2147483646, HIGHEST, 65535),
+    Case(HIGHEST, 2147483646, 65535),
+    // Three sigma from the centre line, and one more.
+    Case(196605, 0, 65535),
+    Case(196606, 0, 65535),
+    Case(-196605, 0, 65535),
+    Case(-196606, 0, 65535),
+    Case(-2147483645, LOWEST, 1),
+    Case(-2147483644, LOWEST, 1),
+    Case(2147483644, HIGHEST, 1),
+    Case(2147483643, HIGHEST, 1),
+    // The bounds of sigma.
+    Case(0, 0, 0),
+    Case(0, 0, 1),
+    Case(0, 0, 65535),
+    Case(0, 0, 65536),
+    Case(0, 0, 4294967295),
+];
+
+fn row(i: usize) -> Case
+    requires { ⌜ i < 36 ⌝ }
+{
+    CASES[i]
 }
 
-fn above() {
-    reading(b"131", 131, 100, 10);
-    reading(b"130", 130, 100, 10);
-    reading(b"120", 120, 100, 10);
-    reading(b"111", 111, 100, 10);
-    reading(b"110", 110, 100, 10);
-    reading(b"101", 101, 100, 10);
+fn one(c: Case) {
+    answers::signed(b"", c.0);
+    answers::signed(b" on ", c.1);
+    show::number(b" sigma ", c.2 as u64);
+    answers::zoned(zone_of(c.0, c.1, c.2));
 }
 
-fn below() {
-    reading(b"99", 99, 100, 10);
-    reading(b"90", 90, 100, 10);
-    reading(b"89", 89, 100, 10);
-    reading(b"79", 79, 100, 10);
-    reading(b"70", 70, 100, 10);
-    reading(b"69", 69, 100, 10);
-}
-
-pub fn examples() {
-    above();
-    reading(b"100", 100, 100, 10);
-    below();
-}
-
-fn widest() {
-    let low: i32 = -2147483648;
-    let high: i32 = 2147483647;
-    reading(b"highest on lowest, sigma 1", high, low, 1);
-    reading(b"highest on lowest, sigma 65535", high, low, 65535);
-    reading(b"lowest on highest, sigma 1", low, high, 1);
-    reading(b"lowest on highest, sigma 65535", low, high, 65535);
-}
-
-// On the centre line at both ends, and one beside it.
-fn centres() {
-    let low: i32 = -2147483648;
-    let high: i32 = 2147483647;
-    reading(b"lowest on lowest, sigma 1", low, low, 1);
-    reading(b"1 above the lowest, sigma 1", -2147483647, low, 1);
-    reading(b"lowest on 1 above it, sigma 1", low, -2147483647, 1);
-    reading(b"highest on highest, sigma 65535", high, high, 65535);
-    reading(b"1 below the highest, sigma 65535", 2147483646, high, 65535);
-    reading(
-        b"highest on 1 below it, sigma 65535",
-        high,
-        2147483646,
-        65535,
-    );
-}
-
-fn limits() {
-    let low: i32 = -2147483648;
-    let high: i32 = 2147483647;
-    reading(b"196605 on 0, sigma 65535", 196605, 0, 65535);
-    reading(b"196606 on 0, sigma 65535", 196606, 0, 65535);
-    reading(b"-196605 on 0, sigma 65535", -196605, 0, 65535);
-    reading(b"-196606 on 0, sigma 65535", -196606, 0, 65535);
-    reading(b"3 above the lowest, sigma 1", -2147483645, low, 1);
-    reading(b"4 above the lowest, sigma 1", -2147483644, low, 1);
-    reading(b"3 below the highest, sigma 1", 2147483644, high, 1);
-    reading(b"4 below the highest, sigma 1", 2147483643, high, 1);
-}
-
-pub fn extremes() {
-    widest();
-    centres();
-    limits();
-}
-
-pub fn refusals() {
-    reading(b"sigma 0", 0, 0, 0);
-    reading(b"sigma 1", 0, 0, 1);
-    reading(b"sigma 65535", 0, 0, 65535);
-    reading(b"sigma 65536", 0, 0, 65536);
-    reading(b"sigma 4294967295", 0, 0, 4294967295);
+pub fn run(heading: &[u8], from: usize, to: usize)
+    requires { ⌜ to ≤ 36 ⌝ }
+{
+    show::text(heading);
+    for i in from..to {
+        one(row(i));
+    }
 }

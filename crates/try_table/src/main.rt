@@ -2,23 +2,21 @@
 // standings that do not differ, and on every refusal with its nearest accepted neighbour. What it prints is compared with the file
 // `stdout`.
 mod answers;
+mod cases;
 mod counts;
+mod every_rule;
 mod listing;
-mod refusals;
 
 fn main() {
-    show::text(b"the listing of document 01\n");
-    listing::listing();
-    show::text(b"rule 2,3,2 on the listing's weights\n");
-    listing::two_of_three();
-    show::text(b"states of k,m on zones 1 and 2, on all but C0, and on all zones\n");
-    counts::every_rule();
-    show::text(b"the largest lists\n");
-    counts::largest();
-    show::text(b"lists with standings that do not differ\n");
-    counts::merged();
-    show::text(b"rules given twice\n");
-    counts::given_twice();
+    listing::rows(b"the listing of document 01\n", [2, 2, 2, 0, 0, 0, 1]);
+    listing::rows(
+        b"rule 2,3,2 on the listing's weights\n",
+        [2, 3, 2, 0, 0, 0, 1],
+    );
+    every_rule::every_rule(b"states of k,m on zones 1 and 2, on all but C0, and on all zones\n");
+    counts::largest(b"the largest lists, with the weights of zones 0, 1, 2 and 4\n");
+    counts::merged(b"lists with standings that do not differ\n");
+    counts::given_twice(b"rules given twice\n");
     show::text(b"refusals\n");
-    refusals::refusals();
+    cases::run(cases::TWICE, cases::ALL);
 }

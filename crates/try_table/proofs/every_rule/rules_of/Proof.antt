@@ -1,11 +1,11 @@
--- `counts::rules_of` ends: k rises to 10.
+-- `every_rule::rules_of` ends: k rises to 10.
 use Prim.Native.Nat.{_≤_, _-_}
 use borrow.Author.Needs.{needs}
-use Rattle.try_table.proofs.counts.rules_of.Statement.{statement}
-use Rattle.try_table.proofs.counts.rules_of.Tie as tie
-use Rattle.try_table.proofs.counts.rules_of.Reads as reads
-use Rattle.try_table.proofs.counts.rules_of.Lts as lts
-use Rattle.try_table.proofs.counts.rule.Reads as rule-reads
+use Rattle.try_table.proofs.every_rule.rules_of.Statement.{statement}
+use Rattle.try_table.proofs.every_rule.rules_of.Tie as tie
+use Rattle.try_table.proofs.every_rule.rules_of.Reads as reads
+use Rattle.try_table.proofs.every_rule.rules_of.Lts as lts
+use Rattle.try_table.proofs.every_rule.rule.Reads as rule-reads
 
 abbrev Inv-loop : tie.InvT-loop
 Inv-loop m k₀ k = k ≤ 10
