@@ -1,5 +1,6 @@
 // Numbers with a whole part and a fraction: rounded to decimal places, and printed with them.
 use runlength::UNITS_PER_ONE;
+ghost use Prim.Native.Nat.{_≤_};
 
 // The fraction is in units of 2^-60.
 pub struct Exact {
@@ -19,10 +20,6 @@ impl Exact {
         }
     }
 
-    fn hundred_times(self) -> Exact {
-        self.ten_times().ten_times()
-    }
-
     // The nearest whole number; a half goes up.
     fn rounded(self) -> u64 {
         if self.fraction < UNITS_PER_ONE / 2 {
@@ -31,50 +28,40 @@ impl Exact {
         self.whole % Exact::WHOLE_LIMIT + 1
     }
 
-    // The number in units of the last of 0, 1, 2, 4 or 5 decimal places.
+    // The number in units of the last of so many decimal places.
     pub fn in_places(self, places: u32) -> u64 {
-        match places {
-            0 => self.rounded(),
-            1 => self.ten_times().rounded(),
-            2 => self.hundred_times().rounded(),
-            4 => self.hundred_times().hundred_times().rounded(),
-            _ => self.hundred_times().hundred_times().ten_times().rounded(),
+        let mut scaled = self;
+        for _ in 0..places {
+            scaled = scaled.ten_times();
         }
+        scaled.rounded()
     }
 }
 
-fn tenths(before: &[u8], n: u64) {
-    show::number(before, n / 10);
-    show::number(b".", n % 10);
+// 10 to a power up to 5.
+fn ten_to(power: u32) -> u64
+    ensures { λ r. ⌜ 1 ≤ r ⌝ }
+{
+    match power {
+        0 => 1,
+        1 => 10,
+        2 => 100,
+        3 => 1000,
+        4 => 10000,
+        _ => 100000,
+    }
 }
 
-fn hundredths(before: &[u8], n: u64) {
-    tenths(before, n / 10);
-    show::number(b"", n % 10);
-}
-
-fn thousandths(before: &[u8], n: u64) {
-    hundredths(before, n / 10);
-    show::number(b"", n % 10);
-}
-
-fn four_places(before: &[u8], n: u64) {
-    thousandths(before, n / 10);
-    show::number(b"", n % 10);
-}
-
-fn five_places(before: &[u8], n: u64) {
-    four_places(before, n / 10);
-    show::number(b"", n % 10);
-}
-
-// Prints n units of the last of 0, 1, 2, 4 or 5 decimal places.
+// Prints n units of the last of up to 5 decimal places.
 pub fn print(before: &[u8], n: u64, places: u32) {
-    match places {
-        0 => show::number(before, n),
-        1 => tenths(before, n),
-        2 => hundredths(before, n),
-        4 => four_places(before, n),
-        _ => five_places(before, n),
+    show::number(before, n / ten_to(places));
+    if places == 0 {
+        return;
+    }
+    show::text(b".");
+    let mut left = places;
+    while left > 0 {
+        left -= 1;
+        show::number(b"", n / ten_to(left) % 10);
     }
 }

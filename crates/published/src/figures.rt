@@ -1,7 +1,8 @@
 // The figures of one chart that sources publish.
 use crate::decimal::Exact;
-use bracket::Bracket;
 use bracket::BracketAnswer;
+use bracket::Bracket;
+use rules::Rule;
 use rules::RuleList;
 use rules::ZONES;
 use runlength::MAX_HORIZON;
@@ -38,6 +39,17 @@ fn exactly(answer: BracketAnswer) -> u64 {
 
 fn percentile(pmf: &[u64], states: u32, percent: u32) -> u64 {
     exactly(bracket::percentile_bracket(pmf, states, percent))
+}
+
+// R1 alone: one point in S.
+pub fn outside_limits() -> RuleList {
+    let mut rules = [Rule {
+        k: 0,
+        m: 0,
+        zones: 0,
+    }; RuleList::MAX_RULES as usize];
+    rules[0] = Rule::new(1, 1, 1);
+    RuleList { rules, len: 1 }
 }
 
 // A horizon of 40 times the mean run length rounded down, and 40 more. Beyond the longest horizon the table is refused.

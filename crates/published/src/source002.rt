@@ -6,63 +6,42 @@ use crate::figures;
 use rules::Rule;
 use rules::RuleList;
 use rules::ZONES;
+ghost use Prim.Native.Nat.{_<_};
 
-// A rule for each side of the centre line.
-struct Pair {
-    low: Rule,
-    high: Rule,
+const CHARTS: usize = 8;
+
+// 1 where R2 is added to R1, where R3 is, where R4 is; the published mean in units of 0.0001.
+const PUBLISHED: [[u64; 4]; CHARTS] = [
+    [0, 0, 0, 3703794],
+    [1, 0, 0, 2254325],
+    [0, 1, 0, 1660509],
+    [0, 0, 1, 2166891],
+    [1, 1, 0, 1328908],
+    [1, 0, 1, 1587345],
+    [0, 1, 1, 1301834],
+    [1, 1, 1, 1090479],
+];
+
+fn published(i: usize) -> [u64; 4]
+    requires { ⌜ i < 8 ⌝ }
+{
+    PUBLISHED[i]
 }
 
-fn rule_2() -> Pair {
-    Pair {
-        low: Rule::new(2, 3, 64),
-        high: Rule::new(2, 3, 2),
+// Where the rule with this number is added: prints its name, and gives the list with the rule for each side of the
+// centre line.
+fn with(list: RuleList, added: u64, number: u64, k: u32, m: u32, low: u32, high: u32) -> RuleList {
+    if added == 0 {
+        return list;
     }
-}
-
-fn rule_3() -> Pair {
-    Pair {
-        low: Rule::new(4, 5, 96),
-        high: Rule::new(4, 5, 6),
-    }
-}
-
-fn rule_4() -> Pair {
-    Pair {
-        low: Rule::new(9, 9, 112),
-        high: Rule::new(9, 9, 14),
-    }
-}
-
-// A pair beyond the list's length.
-fn no_rule() -> Pair {
-    Pair {
-        low: Rule::new(0, 0, 0),
-        high: Rule::new(0, 0, 0),
-    }
-}
-
-// R1, and as many of three pairs as the length takes in.
-fn list_of(first: Pair, second: Pair, third: Pair, len: u32) -> RuleList {
-    let low_1 = first.low;
-    let high_1 = first.high;
-    let low_2 = second.low;
-    let high_2 = second.high;
-    let low_3 = third.low;
-    let high_3 = third.high;
-    let none = Rule::new(0, 0, 0);
+    show::number(b"+R", number);
+    let mut rules = list.rules;
+    let at = (list.len % 7) as usize;
+    rules[at] = Rule { k, m, zones: low };
+    rules[at + 1] = Rule { k, m, zones: high };
     RuleList {
-        rules: [
-            Rule::new(1, 1, 1),
-            low_1,
-            high_1,
-            low_2,
-            high_2,
-            low_3,
-            high_3,
-            none,
-        ],
-        len,
+        rules,
+        len: list.len % 7 + 2,
     }
 }
 
@@ -81,71 +60,20 @@ pub fn in_control() -> [u32; ZONES] {
     ]
 }
 
-// The published mean is in units of 0.0001.
-fn chart(tally: Tally, name: &[u8], list: RuleList, published: u64) -> Tally {
-    let horizon = figures::horizon_for(published / 10000);
-    let f = figures::of_chart(list, in_control(), horizon);
+fn chart(tally: Tally, row: [u64; 4]) -> Tally {
+    show::text(b"002 table 1 R1");
+    let two = with(figures::outside_limits(), row[0], 2, 2, 3, 64, 2);
+    let three = with(two, row[1], 3, 4, 5, 96, 6);
+    let four = with(three, row[2], 4, 9, 9, 112, 14);
+    let f = figures::of_chart(four, in_control(), figures::horizon_for(row[3] / 10000));
     let mean = f.mean;
-    show::text(name);
-    compare::figure(tally, b": arl ", mean.in_places(4), published, 4)
-}
-
-// R1 alone and with one rule more.
-fn one_rule_more(tally: Tally) -> Tally {
-    let no = no_rule();
-    let t1 = chart(tally, b"002 table 1 R1", list_of(no, no, no, 1), 3703794);
-    let t2 = chart(
-        t1,
-        b"002 table 1 R1+R2",
-        list_of(rule_2(), no, no, 3),
-        2254325,
-    );
-    let t3 = chart(
-        t2,
-        b"002 table 1 R1+R3",
-        list_of(rule_3(), no, no, 3),
-        1660509,
-    );
-    chart(
-        t3,
-        b"002 table 1 R1+R4",
-        list_of(rule_4(), no, no, 3),
-        2166891,
-    )
-}
-
-// R1 with two and three rules more.
-fn more_rules(tally: Tally) -> Tally {
-    let no = no_rule();
-    let two = rule_2();
-    let three = rule_3();
-    let four = rule_4();
-    let t1 = chart(
-        tally,
-        b"002 table 1 R1+R2+R3",
-        list_of(two, three, no, 5),
-        1328908,
-    );
-    let t2 = chart(
-        t1,
-        b"002 table 1 R1+R2+R4",
-        list_of(two, four, no, 5),
-        1587345,
-    );
-    let t3 = chart(
-        t2,
-        b"002 table 1 R1+R3+R4",
-        list_of(three, four, no, 5),
-        1301834,
-    );
-    chart(
-        t3,
-        b"002 table 1 R1+R2+R3+R4",
-        list_of(two, three, four, 7),
-        1090479,
-    )
+    compare::figure(tally, b": arl ", mean.in_places(4), row[3], 4)
 }
 
 pub fn table(tally: Tally) -> Tally {
-    more_rules(one_rule_more(tally))
+    let mut all = tally;
+    for i in 0..CHARTS {
+        all = chart(all, published(i));
+    }
+    all
 }

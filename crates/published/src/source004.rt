@@ -9,55 +9,72 @@ use crate::compare::Tally;
 use crate::decimal::Exact;
 use crate::figures;
 use crate::source002;
-use rules::Rule;
 use rules::RuleList;
 use rules::ZONES;
+use show::lists::narrow;
+ghost use Prim.Native.Nat.{_<_};
 
-fn outside_limits() -> RuleList {
-    let mut rules = [Rule {
-        k: 0,
-        m: 0,
-        zones: 0,
-    }; RuleList::MAX_RULES as usize];
-    rules[0] = Rule::new(1, 1, 1);
-    RuleList { rules, len: 1 }
-}
+// For examples 15-1 and 15-2, each in control and shifted: the probability of a signal and the mean run length, both in
+// units of the last decimal place and with the number of places; and the mean that the horizon goes by.
+const PUBLISHED: [[u64; 5]; 4] = [
+    [27, 4, 370, 0, 370],
+    [2236, 4, 45, 1, 5],
+    [83, 5, 1205, 0, 1205],
+    [179, 4, 56, 0, 56],
+];
 
-fn line(tally: Tally, name: &[u8], kind: &[u8], ours: Exact, published: u64, places: u32) -> Tally {
-    show::text(name);
-    compare::figure(tally, kind, ours.in_places(places), published, places)
-}
-
-// A published number, in units of its last decimal place.
-struct Printed {
-    units: u64,
-    places: u32,
-}
-
-// A chart with the one rule that a point is in S.
-fn shewhart(
-    tally: Tally,
-    name: &[u8],
-    weights: [u32; ZONES],
-    first: Printed,
-    mean: Printed,
-    horizon: u32,
-) -> Tally {
-    let f = figures::of_chart(outside_limits(), weights, horizon);
-    let t1 = line(
-        tally,
-        name,
-        b": probability ",
-        f.first,
-        first.units,
-        first.places,
-    );
-    line(t1, name, b": arl ", f.mean, mean.units, mean.places)
+fn published(i: usize) -> [u64; 5]
+    requires { ⌜ i < 4 ⌝ }
+{
+    PUBLISHED[i]
 }
 
 // The weight of S, and the rest in C1.
 fn two_zones(signal: u32, rest: u32) -> [u32; ZONES] {
     [signal, 0, 0, rest, 0, 0, 0, 0]
+}
+
+fn weights(i: usize) -> [u32; ZONES] {
+    match i {
+        0 => source002::in_control(),
+        1 => two_zones(240118063, 833623761),
+        2 => two_zones(891221, 1072850603),
+        _ => two_zones(19271090, 1054470734),
+    }
+}
+
+fn name(i: usize) {
+    show::number(b"004 example 15-", (i / 2 + 1) as u64);
+    if i % 2 == 0 {
+        show::text(b" in control");
+    } else {
+        show::text(b" shifted");
+    }
+}
+
+fn line(tally: Tally, i: usize, kind: &[u8], ours: Exact, units: u64, places: u64) -> Tally {
+    name(i);
+    compare::figure(
+        tally,
+        kind,
+        ours.in_places(narrow(places)),
+        units,
+        narrow(places),
+    )
+}
+
+// A chart with the one rule that a point is in S.
+fn shewhart(tally: Tally, i: usize) -> Tally
+    requires { ⌜ i < 4 ⌝ }
+{
+    let p = published(i);
+    let f = figures::of_chart(
+        figures::outside_limits(),
+        weights(i),
+        figures::horizon_for(p[4]),
+    );
+    let t1 = line(tally, i, b": probability ", f.first, p[0], p[1]);
+    line(t1, i, b": arl ", f.mean, p[2], p[3])
 }
 
 fn western_electric(tally: Tally) -> Tally {
@@ -66,78 +83,20 @@ fn western_electric(tally: Tally) -> Tally {
         source002::in_control(),
         figures::horizon_for(92),
     );
-    line(
+    let mean = f.mean;
+    compare::figure(
         tally,
-        b"004 Western Electric in control",
-        b": arl ",
-        f.mean,
+        b"004 Western Electric in control: arl ",
+        mean.in_places(0),
         92,
         0,
     )
 }
 
-fn mean_charts(tally: Tally) -> Tally {
-    let t1 = shewhart(
-        tally,
-        b"004 example 15-1 in control",
-        source002::in_control(),
-        Printed {
-            units: 27,
-            places: 4,
-        },
-        Printed {
-            units: 370,
-            places: 0,
-        },
-        figures::horizon_for(370),
-    );
-    shewhart(
-        t1,
-        b"004 example 15-1 shifted",
-        two_zones(240118063, 833623761),
-        Printed {
-            units: 2236,
-            places: 4,
-        },
-        Printed {
-            units: 45,
-            places: 1,
-        },
-        figures::horizon_for(5),
-    )
-}
-
-fn p_charts(tally: Tally) -> Tally {
-    let t1 = shewhart(
-        tally,
-        b"004 example 15-2 in control",
-        two_zones(891221, 1072850603),
-        Printed {
-            units: 83,
-            places: 5,
-        },
-        Printed {
-            units: 1205,
-            places: 0,
-        },
-        figures::horizon_for(1205),
-    );
-    shewhart(
-        t1,
-        b"004 example 15-2 shifted",
-        two_zones(19271090, 1054470734),
-        Printed {
-            units: 179,
-            places: 4,
-        },
-        Printed {
-            units: 56,
-            places: 0,
-        },
-        figures::horizon_for(56),
-    )
-}
-
 pub fn examples(tally: Tally) -> Tally {
-    p_charts(western_electric(mean_charts(tally)))
+    let t1 = shewhart(tally, 0);
+    let t2 = shewhart(t1, 1);
+    let t3 = western_electric(t2);
+    let t4 = shewhart(t3, 2);
+    shewhart(t4, 3)
 }

@@ -3,8 +3,6 @@ use crate::number;
 use crate::text;
 use rules::Rule;
 use rules::RuleList;
-ghost use Prim.Native.Nat.{_≤_};
-ghost use lib.ListN.{length};
 
 // A number of a row as one of 32 bits.
 pub fn narrow(n: u64) -> u32 {
@@ -34,11 +32,15 @@ pub fn whole(l: RuleList) {
     }
 }
 
-// Prints and gives the list that a row begins with: k, m and the zones of the first rule and of the second, and how many rules count. The six
-// other slots hold the rule given.
-pub fn listed(row: &[u64], other: Rule) -> RuleList
-    requires { ⌜ 7 ≤ length (now row) ⌝ }
-{
+// Prints and gives the list that a row begins with: k, m and the zones of the first rule and of the second, and how
+// many rules count. The six other slots hold the rule given. A row of fewer than seven numbers gives no rules.
+pub fn listed(row: &[u64], other: Rule) -> RuleList {
+    if row.len() < 7 {
+        return RuleList {
+            rules: [other; RuleList::MAX_RULES as usize],
+            len: 0,
+        };
+    }
     let first = rule_of(row[0], row[1], row[2]);
     let second = rule_of(row[3], row[4], row[5]);
     let len = narrow(row[6]);

@@ -47,12 +47,14 @@ const CASES: [[u64; 10]; ALL] = [
     [2, 3, 2, 0, 0, 0, 1, 0, 4294967294, 3],
     [2, 3, 2, 0, 0, 0, 1, 0, LAST, 3],
     [1, 1, 255, 0, 0, 0, 1, 0, LAST, 0],
-    // The order: the last count with a bad state, with a bad zone; a bad state with a bad zone; a bad list with all of them.
+    // The order: the last count with a bad state, with a bad zone; a bad state with a bad zone; a bad list with all of
+    // them.
     [2, 3, 2, 0, 0, 0, 1, 3, LAST, 3],
     [2, 3, 2, 0, 0, 0, 1, 0, LAST, 8],
     [2, 3, 2, 0, 0, 0, 1, 3, 9, 8],
     [0, 3, 2, 0, 0, 0, 1, 3, LAST, 8],
-    // With 2,2 on A1 and 2,2 on A2 both windows cannot have a hit of age 1; the state passes all the same. C1, A1, A2.
+    // With 2,2 on A1 and 2,2 on A2 both windows cannot have a hit of age 1; the state passes all the same. The points
+    // are in C1, A1 and A2.
     [2, 2, 2, 2, 2, 64, 2, 257, 9, 3],
     [2, 2, 2, 2, 2, 64, 2, 257, 9, 1],
     [2, 2, 2, 2, 2, 64, 2, 257, 9, 6],
@@ -115,8 +117,8 @@ pub fn early_signal(heading: &[u8]) {
     readings(l, &[121, 121]);
 }
 
-// Rule 0 is 2,3 on A1 and rule 1 is 3,9 on A1 and B1. The points are in B1, B1, A1, A1, A1: rule 1 signals, and rule 0 forgets its hit too,
-// so one more A1 stays quiet.
+// Rule 0 is 2,3 on A1 and rule 1 is 3,9 on A1 and B1. The points are in B1, B1, A1, A1, A1: rule 1 signals, and rule 0
+// forgets its hit too, so one more A1 stays quiet.
 pub fn reset_all(heading: &[u8]) {
     show::text(heading);
     let l = lists::listed(&[2, 3, 2, 3, 9, 6, 2], NONE);

@@ -1,4 +1,5 @@
-// Lists of two rules: how many states they have; and every refusal of the table, in its order, with its nearest accepted neighbour.
+// Lists of two rules: how many states they have; and every refusal of the table, in its order, with its nearest accepted
+// neighbour.
 use crate::answers;
 use rules::Rule;
 use rules::RuleList;
@@ -22,13 +23,14 @@ const ONE: u64 = 1073741824;
 
 const TWO: u64 = 2147483648;
 
-// A list, in a row as `show` takes it; the weights of the zones 0, 1, 2 and 4; the horizon; how many places there are for the pmf and for the
-// survival.
+// A list, in a row as `show` takes it; the weights of the zones 0, 1, 2 and 4; the horizon; how many places there are for
+// the pmf and for the survival.
 const CASES: [[u64; 14]; ALL] = [
     // 1,008 states before merging and after it; 1,296 before it are too many.
     [3, 9, 6, 3, 8, 12, 2, 0, HALF, 0, HALF, 1, 1, 1],
     [3, 9, 6, 3, 9, 12, 2, 0, HALF, 0, HALF, 1, 1, 1],
-    // 5, 56 and 1,001 states before merging; the last list has 1,287, too many. In the last three the second rule never holds without the first.
+    // 5, 56 and 1,001 states before merging; the last list has 1,287, too many. In the last three the second rule never
+    // holds without the first.
     [2, 3, 2, 2, 3, 6, 2, 0, HALF, 0, HALF, 1, 1, 1],
     [4, 7, 14, 4, 4, 2, 2, 0, HALF, 0, HALF, 1, 1, 1],
     [5, 9, 6, 5, 9, 2, 2, 0, HALF, 0, HALF, 1, 1, 1],

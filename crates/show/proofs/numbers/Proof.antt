@@ -11,6 +11,9 @@ Inv-loop before ns i₀ t4 i-end i = i-end ≤ length ns
 abbrev μ-loop : tie.MeasureT-loop
 μ-loop before ns i₀ t4 i-end i = i-end - i
 
+returns : tie.Need-returns Inv-loop μ-loop
+returns c = search needs
+
 shared-slice-read-number : tie.Need-shared-slice-read-number Inv-loop μ-loop
 shared-slice-read-number c = search needs
 
@@ -41,8 +44,8 @@ loop-less c = search needs
 loop-again : tie.Need-loop-again Inv-loop μ-loop
 loop-again c = search needs
 
-returns : tie.Need-returns Inv-loop μ-loop
-returns c = search needs
+returns-2 : tie.Need-returns-2 Inv-loop μ-loop
+returns-2 c = search needs
 
 pub numbers-spec : {M : Type 1} → statement M
 numbers-spec =
@@ -50,6 +53,7 @@ numbers-spec =
     (tie.spec
     Inv-loop
     μ-loop
+    returns
     shared-slice-read-number
     number-requires
     loop-holds
@@ -60,4 +64,4 @@ numbers-spec =
     add-i
     loop-less
     loop-again
-    returns)
+    returns-2)
