@@ -1,7 +1,7 @@
 // The monitor program's lines: one for each point, and one for each node.
 use write::put_byte;
-use write::put_short_field;
-use write::put_short_named;
+use write::put_field;
+use write::put_named;
 ghost use Prim.Native.Nat.{_+_, _≤_};
 ghost use lib.ListN.{length};
 ghost use Rattle.write.specs.Wrote.{Wrote};
@@ -40,9 +40,9 @@ pub fn put_point(out: &mut [u8], at: usize, line: PointLine) -> usize
             count,
             period,
         } => {
-            let a = put_short_named(out, at, b"quiet", node);
-            let b = put_short_field(out, a, count);
-            let e = put_short_field(out, b, period);
+            let a = put_named(out, at, b"quiet", node as u64);
+            let b = put_field(out, a, count as u64);
+            let e = put_field(out, b, period as u64);
             put_byte(out, e, b'\n')
         }
         PointLine::Signal {
@@ -51,10 +51,10 @@ pub fn put_point(out: &mut [u8], at: usize, line: PointLine) -> usize
             mask,
             period,
         } => {
-            let a = put_short_named(out, at, b"signal", node);
-            let b = put_short_field(out, a, count);
-            let e = put_short_field(out, b, mask);
-            let f = put_short_field(out, e, period);
+            let a = put_named(out, at, b"signal", node as u64);
+            let b = put_field(out, a, count as u64);
+            let e = put_field(out, b, mask as u64);
+            let f = put_field(out, e, period as u64);
             put_byte(out, f, b'\n')
         }
     }
@@ -73,8 +73,8 @@ pub fn put_total(out: &mut [u8], at: usize, line: TotalLine) -> usize
     ensures { λ r. ⌜ Wrote (now (out .entry)) at (now (out .exit)) r (totalLine (line .node) (line .points) (line .signals)) ⌝ }
     ensures { λ r. ⌜ r ≤ at + totalRoom ⌝ }
 {
-    let a = put_short_named(out, at, b"total", line.node);
-    let b = put_short_field(out, a, line.points);
-    let e = put_short_field(out, b, line.signals);
+    let a = put_named(out, at, b"total", line.node as u64);
+    let b = put_field(out, a, line.points as u64);
+    let e = put_field(out, b, line.signals as u64);
     put_byte(out, e, b'\n')
 }

@@ -5,10 +5,13 @@ use mathlib.Core.List.{List}
 use native.Mathlib.Omega.{arith}
 use lib.ListN.{length, getD, take}
 use lib.Seq.{take-suc, take-all}
+use mir.Syntax.{w32}
+use mir.Val.{Fits}
 use Rattle.decimal.specs.Fields.{field, fields}
 use Rattle.decimal.specs.FieldsLaws.{fields-snoc}
 use Rattle.write.specs.Wrote.{Wrote}
 use Rattle.write.specs.Field.{shortField}
+use Rattle.write.specs.FieldLaws.{field-short}
 use Rattle.write.specs.PartsWritten.{joined, PartsWritten}
 use Rattle.write.specs.PartsWrittenLaws.{parts-start, parts-more, parts-done}
 
@@ -26,9 +29,9 @@ module _ {a : List ℕ} {at : ℕ} {ns : List ℕ} where
   pub fielded-start : at ≤ length a → FieldsWritten a at ns a at 0
   fielded-start l = record { parts = parts-start l }
 
-  pub fielded-more : {b c : List ℕ} {e i x r : ℕ} → FieldsWritten a at ns b e i → i < length ns → x ≡ getD ns i 0 → Wrote b e c r (field x)
-      → r ≤ e + shortField → FieldsWritten a at ns c r (i + 1)
-  fielded-more f l q w m = record { parts = parts-more (f .parts) l (rw q at w) m }
+  pub fielded-more : {b c : List ℕ} {e i r : ℕ} → FieldsWritten a at ns b e i → i < length ns → Fits w32 (getD ns i 0)
+      → Wrote b e c r (field (getD ns i 0)) → FieldsWritten a at ns c r (i + 1)
+  fielded-more f l h w = record { parts = parts-more (f .parts) l w (omega (arith, field-short h)) }
 
   pub fielded-done : {b : List ℕ} {e i : ℕ} → FieldsWritten a at ns b e i → length ns ≤ i → Wrote a at b e (fields ns)
   fielded-done f l =

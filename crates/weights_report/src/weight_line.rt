@@ -3,7 +3,7 @@ use rules::ZoneWeights;
 use rules::weight_array;
 use write::put_byte;
 use write::put_bytes;
-use write::put_short_field;
+use write::put_field;
 ghost use Prim.Native.Nat.{_+_, _*_, _≤_};
 ghost use lib.ListN.{length};
 ghost use Rattle.decimal.specs.Fields.{fields};
@@ -23,7 +23,7 @@ fn put_fields(out: &mut [u8], at: usize, numbers: &[u32]) -> usize
     let mut e = at;
     let mut i = 0;
     while i < numbers.len() {
-        e = put_short_field(out, e, numbers[i]);
+        e = put_field(out, e, numbers[i] as u64);
         i += 1;
     }
     e

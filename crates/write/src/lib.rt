@@ -6,12 +6,9 @@ mod refused;
 
 pub use field::put_field;
 pub use field::put_named;
-pub use field::put_short_field;
-pub use field::put_short_named;
 pub use put::put_byte;
 pub use put::put_bytes;
 pub use put::put_number;
-pub use put::put_short;
 pub use refused::put_answer;
 pub use refused::put_refused;
 use rules::Refusal;

@@ -5,7 +5,6 @@ ghost use mathlib.Core.Path.{_≡_};
 ghost use Prim.Native.Nat.{_+_, _<_, _≤_};
 ghost use lib.ListN.{length};
 ghost use Rattle.decimal.specs.Decimal.{digitByte, decimal};
-ghost use Rattle.write.specs.NumberRoom.{numberRoom, shortRoom};
 ghost use Rattle.write.specs.Wrote.{Wrote};
 
 pub fn put_byte(out: &mut [u8], at: usize, byte: u8) -> usize
@@ -35,32 +34,14 @@ fn digit(d: u64) -> u8
     b'0' + d as u8
 }
 
-// n in decimal, where there is room for just that.
-fn put_digits(out: &mut [u8], at: usize, n: u64) -> usize
+// n in decimal.
+pub fn put_number(out: &mut [u8], at: usize, n: u64) -> usize
     requires { ⌜ at + length (decimal n) ≤ length (now out) ⌝ }
     ensures { λ r. ⌜ Wrote (now (out .entry)) at (now (out .exit)) r (decimal n) ⌝ }
 {
     if n < 10 {
         return put_byte(out, at, digit(n));
     }
-    let e = put_digits(out, at, n / 10);
+    let e = put_number(out, at, n / 10);
     put_byte(out, e, digit(n % 10))
-}
-
-// n in decimal, where there is room for every number of 64 bits.
-pub fn put_number(out: &mut [u8], at: usize, n: u64) -> usize
-    requires { ⌜ at + numberRoom ≤ length (now out) ⌝ }
-    ensures { λ r. ⌜ Wrote (now (out .entry)) at (now (out .exit)) r (decimal n) ⌝ }
-    ensures { λ r. ⌜ r ≤ at + numberRoom ⌝ }
-{
-    put_digits(out, at, n)
-}
-
-// n in decimal, where there is room for every number of 32 bits.
-pub fn put_short(out: &mut [u8], at: usize, n: u32) -> usize
-    requires { ⌜ at + shortRoom ≤ length (now out) ⌝ }
-    ensures { λ r. ⌜ Wrote (now (out .entry)) at (now (out .exit)) r (decimal n) ⌝ }
-    ensures { λ r. ⌜ r ≤ at + shortRoom ⌝ }
-{
-    put_digits(out, at, n as u64)
 }

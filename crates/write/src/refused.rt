@@ -1,8 +1,8 @@
 // The line of a refused text, and all that a program writes: what its report wrote, or that line.
 use crate::ReportAnswer;
-use crate::field::put_short_field;
-use crate::field::put_short_named;
 use crate::put_byte;
+use crate::put_field;
+use crate::put_named;
 use rules::Refusal;
 ghost use Prim.Native.Nat.{_+_, _≤_};
 ghost use lib.ListN.{length};
@@ -16,8 +16,8 @@ pub fn put_refused(out: &mut [u8], at: usize, refusal: Refusal) -> usize
     ensures { λ r. ⌜ Wrote (now (out .entry)) at (now (out .exit)) r (refusedLine (refusal .number) (refusal .place)) ⌝ }
     ensures { λ r. ⌜ r ≤ at + refusedRoom ⌝ }
 {
-    let a = put_short_named(out, at, b"refused", refusal.number);
-    let b = put_short_field(out, a, refusal.place);
+    let a = put_named(out, at, b"refused", refusal.number as u64);
+    let b = put_field(out, a, refusal.place as u64);
     put_byte(out, b, b'\n')
 }
 

@@ -1,8 +1,9 @@
--- `print::put_fields` meets its contract. The invariant is `FieldsWritten`: the fields of the first i numbers are written.
+-- `weights_report::put_fields` meets its contract. Its invariant: the fields of the first i numbers are written.
 use borrow.Author.Needs.{needs}
 use Prim.Native.Nat.{_-_}
 use native.Mathlib.Omega.{arith}
 use lib.ListN.{length}
+use Rattle.write.specs.FieldLaws.{field-short}
 use Rattle.weights_report.specs.FieldsWrittenLaws.{FieldsWritten, fielded-start, fielded-more, fielded-done}
 use Rattle.weights_report.proofs.weight_line.put_fields.Statement.{statement}
 use Rattle.weights_report.proofs.weight_line.put_fields.Tie as tie
@@ -16,14 +17,19 @@ abbrev μ-loop : tie.MeasureT-loop
 loop-holds : tie.Need-loop-holds Inv-loop μ-loop
 loop-holds c = fielded-start (omega arith)
 
-mul-put-short-field : tie.Need-mul-put-short-field Inv-loop μ-loop
-mul-put-short-field c = search needs
+mul-put-field : tie.Need-mul-put-field Inv-loop μ-loop
+mul-put-field c = search needs
 
-shared-slice-read-put-short-field : tie.Need-shared-slice-read-put-short-field Inv-loop μ-loop
-shared-slice-read-put-short-field c = search needs
+shared-slice-read-put-field : tie.Need-shared-slice-read-put-field Inv-loop μ-loop
+shared-slice-read-put-field c = search needs
 
-put-short-field-requires : tie.Need-put-short-field-requires Inv-loop μ-loop
-put-short-field-requires c κs = search needs
+cast-put-field : tie.Need-cast-put-field Inv-loop μ-loop
+cast-put-field c = omega (arith, c .shared-slice-known2 .given (c .before .before .before .loop .i))
+
+put-field-requires : tie.Need-put-field-requires Inv-loop μ-loop
+put-field-requires c κs =
+    let l = c .before .before .before .loop in
+    omega (arith, field-short (c .shared-slice-known2 .given (l .i)))
 
 add-i : tie.Need-add-i Inv-loop μ-loop
 add-i c = search needs
@@ -32,7 +38,12 @@ loop-less : tie.Need-loop-less Inv-loop μ-loop
 loop-less c = search needs
 
 loop-again : tie.Need-loop-again Inv-loop μ-loop
-loop-again c = search fielded-more
+loop-again c =
+    let p = c .before .before in
+    let k = p .before in
+    let t = k .before .before in
+    let l = t .before .loop in
+    fielded-more (l .inv) (t .loop-test .taken) (k .shared-slice-known2 .given (l .i)) (p .put-field .ensures)
 
 same-length : tie.Need-same-length Inv-loop μ-loop
 same-length c = search needs
@@ -47,9 +58,10 @@ put-fields-spec =
     Inv-loop
     μ-loop
     loop-holds
-    mul-put-short-field
-    shared-slice-read-put-short-field
-    put-short-field-requires
+    mul-put-field
+    shared-slice-read-put-field
+    cast-put-field
+    put-field-requires
     add-i
     loop-less
     loop-again

@@ -1,6 +1,5 @@
--- `print::put_named` meets its contract: the word, then the field.
+-- `write::put_named` meets its contract: the word, then the field.
 use borrow.Author.Needs.{needs}
-use native.Mathlib.Omega.{arith}
 use Rattle.write.specs.WroteLaws.{then}
 use Rattle.write.proofs.field.put_named.Statement.{statement}
 use Rattle.write.proofs.field.put_named.Tie as tie
@@ -15,7 +14,7 @@ same-length : tie.Need-same-length
 same-length c = search needs
 
 returns : tie.Need-returns
-returns c = (search then, omega arith)
+returns c = search then
 
 pub put-named-spec : {M : Type 1} → statement M
 put-named-spec = tie.close (tie.spec put-bytes-requires put-field-requires same-length returns)
