@@ -15,7 +15,7 @@ use Rattle.decimal.specs.Fields.{field, fields}
 use Rattle.decimal.specs.Word.{newline}
 use Rattle.grammar.specs.Newlines.{newlines}
 use Rattle.monitor_text.specs.Readings.{NodeReading, nodeCount, OnBench, readingsOf}
-use Rattle.monitor_report.specs.MonitorLines.{quietWord, signalWord, totalWord}
+use Rattle.monitor_lines.specs.MonitorLines.{quietWord, signalWord, totalWord}
 use Rattle.write.specs.Printed.{printedBytes}
 use Rattle.monitor_report.specs.Points.{signalsIn, nodeTotal, benchTotals}
 use Rattle.monitor.specs.Zones.{zonesOf}

@@ -5,7 +5,7 @@ use mathlib.Core.List.{List, [], _∷_, _++_}
 use Rattle.decimal.specs.Fields.{fields}
 use Rattle.decimal.specs.Word.{newline as lf}
 use Rattle.write.specs.Field.{field}
-use Rattle.monitor_report.specs.MonitorLines.{quietWord, signalWord, totalWord, quietLine, signalLine, totalLine}
+use Rattle.monitor_lines.specs.MonitorLines.{quietWord, signalWord, totalWord, quietLine, signalLine, totalLine}
 use Rattle.text_claims.specs.LineOnceLaws.{line-once, group3, group4}
 
 pub quiet-shape : (node n p : ℕ) (xs : List ℕ) → quietLine node n p ++ xs ≡ quietWord ++ (fields (node ∷ n ∷ p ∷ []) ++ (10 ∷ xs))

@@ -9,7 +9,7 @@ use Rattle.rules.specs.declared.Rule.{Rule}
 use Rattle.window.specs.ReferenceChart.{Answer, refused, quiet, signal}
 use Rattle.monitor.specs.Calls.{Said, EachAnswer}
 use Rattle.write.specs.Refused.{refusedLine}
-use Rattle.monitor_report.specs.MonitorLines.{quietLine, signalLine, totalLine}
+use Rattle.monitor_lines.specs.MonitorLines.{quietLine, signalLine, totalLine}
 use Rattle.write.specs.Printed.{printedBytes}
 use Rattle.monitor_text.specs.Readings.{NodeReading, nodeCount, readingsOf}
 use Rattle.monitor_report.specs.Points.{NodeAnswer, nodeAnswer, NodeTotal, lastAnswer, pointAnswer, benchAnswers, benchTotals}

@@ -15,7 +15,7 @@ use Rattle.decimal.specs.Fields.{fields}
 use Rattle.grammar.specs.Newlines.{newlines}
 use Rattle.monitor_text.specs.Readings.{NodeReading, nodeCount, readingsOf}
 use Rattle.monitor_text.specs.ReadingsLaws.{readings-append, reading-other}
-use Rattle.monitor_report.specs.MonitorLines.{quietWord, signalWord, totalWord, totalLine}
+use Rattle.monitor_lines.specs.MonitorLines.{quietWord, signalWord, totalWord, totalLine}
 use Rattle.monitor_report.specs.Points.{NodeAnswer, nodeAnswer, NodeTotal, lastAnswer, pointAnswer, benchAnswers, nodeTotal, benchTotals}
 use Rattle.monitor_report.specs.Points.{lineOf, answerLines, totalLines, benchBytes}
 use Rattle.monitor_report.specs.PointsLaws.{last-more}

@@ -9,7 +9,7 @@ use Rattle.window.specs.ReferenceChart.{Answer, refused, quiet, signal}
 use Rattle.decimal.specs.Decimal.{decimal}
 use Rattle.decimal.specs.Fields.{field}
 use Rattle.decimal.specs.Word.{comma, newline}
-use Rattle.monitor_report.specs.MonitorLines.{quietWord, signalWord, totalWord}
+use Rattle.monitor_lines.specs.MonitorLines.{quietWord, signalWord, totalWord}
 use Rattle.monitor_report.specs.Points.{signalsIn}
 use Prim.Native.Nat.{ℕ, zero, suc}
 use mathlib.Core.Path.{_≡_}

@@ -11,7 +11,7 @@ use Rattle.window.specs.ReferenceChart.{Answer, refused, quiet, signal}
 use Rattle.monitor.specs.Calls.{Said}
 use Rattle.decimal.specs.Fields.{fields}
 use Rattle.monitor_text.specs.Readings.{NodeReading, nodeCount, readingsOf}
-use Rattle.monitor_report.specs.MonitorLines.{quietWord, signalWord, totalWord}
+use Rattle.monitor_lines.specs.MonitorLines.{quietWord, signalWord, totalWord}
 use Rattle.monitor_report.specs.Points.{NodeAnswer, NodeTotal, lastAnswer, pointAnswer, benchAnswers, nodeTotal, benchTotals}
 use Rattle.monitor_report.specs.Points.{lineOf, answerLines, totalLines, benchBytes}
 use Rattle.monitor_claims.specs.MonitorLinesLaws.{quiet-shape, signal-shape, total-shape}

@@ -13,7 +13,7 @@ use Rattle.window.specs.ReferenceChart.{Answer, refused, quiet, signal, rowMask
 use Rattle.monitor.specs.Calls.{Said, EachAnswer}
 use Rattle.decimal.specs.Decimal.{decimal}
 use Rattle.monitor_text.specs.Readings.{NodeReading, nodeCount, OnBench, readingsOf}
-use Rattle.monitor_report.specs.MonitorLines.{quietWord, signalWord, totalWord}
+use Rattle.monitor_lines.specs.MonitorLines.{quietWord, signalWord, totalWord}
 use Rattle.write.specs.Printed.{printedBytes}
 use Rattle.monitor_report.specs.Points.{NodeAnswer, nodeAnswer, NodeTotal, signalsIn, benchAnswers, nodeTotal, benchTotals}
 use Rattle.monitor.specs.Zones.{zonesOf}

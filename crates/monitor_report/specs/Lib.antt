@@ -1,5 +1,4 @@
 -- What the monitor program prints, in terms of the text that it is given.
-pub mod MonitorLines
 pub mod Points
 pub mod Nodes
 pub mod NodesLaws

@@ -11,7 +11,7 @@ use Rattle.monitor.specs.Step.{freshMonitor}
 use Rattle.window.specs.ReferenceChart.{Answer}
 use Rattle.monitor.specs.Take.{takenOf, nextOf, takenAnswers}
 use Rattle.monitor.specs.declared.Taken.{Taken}
-use Rattle.monitor_report.specs.declared.lines.PointLine.{PointLine}
+use Rattle.monitor_lines.specs.declared.lines.PointLine.{PointLine}
 use Rattle.monitor_report.specs.declared.nodes.Node.{Node}
 use Rattle.monitor_report.specs.declared.nodes.NodePoint.{NodePoint}
 use Rattle.monitor_report.specs.Points.{signalsIn, NodeTotal}

@@ -20,7 +20,7 @@ use Rattle.monitor.specs.Take.{takenBy, takenOf, nextOf, answerOf, takenAnswers
 use Rattle.monitor.specs.declared.Taken.{Taken}
 use Rattle.window.specs.declared.Move.{Move}
 use Rattle.monitor_report.specs.declared.nodes.Node.{Node}
-use Rattle.monitor_report.specs.MonitorLines.{pointBytes}
+use Rattle.monitor_lines.specs.MonitorLines.{pointBytes}
 use Rattle.monitor.specs.TakeLaws.{taken-valid}
 use Rattle.window.specs.GivenLaws.{fresh-valid}
 use Rattle.monitor_report.specs.Points.{signalsIn, nodeTotal, lineOf}

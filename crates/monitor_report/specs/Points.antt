@@ -9,7 +9,7 @@ use Rattle.grammar.specs.FormLaws.{leastOf}
 use Rattle.grammar.specs.Size.{maxText}
 use Rattle.monitor_text.specs.MonitorGrammar.{pointLine}
 use Rattle.monitor_text.specs.Readings.{NodeReading, nodeCount, readingsOf}
-use Rattle.monitor_report.specs.MonitorLines.{quietLine, signalLine, pointRoom, totalLine, totalRoom}
+use Rattle.monitor_lines.specs.MonitorLines.{quietLine, signalLine, pointRoom, totalLine, totalRoom}
 
 -- ---- working: rooms
 

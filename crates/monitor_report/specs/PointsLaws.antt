@@ -26,7 +26,7 @@ use Rattle.monitor_text.specs.MonitorGrammar.{pointLine}
 use Rattle.monitor_text.specs.MonitorText.{pointsAt}
 use Rattle.monitor_text.specs.PointTurnLaws.{pointsBy, one-point, no-points, seen-ahead}
 use Rattle.monitor_text.specs.ReadingsLaws.{readings-append, reading-own, reading-other, readings-few}
-use Rattle.monitor_report.specs.MonitorLines.{pointBytes, pointRoom}
+use Rattle.monitor_lines.specs.MonitorLines.{pointBytes, pointRoom}
 use Rattle.monitor_report.specs.declared.nodes.Node.{Node}
 use Rattle.monitor_report.specs.declared.nodes.NodePoint.{NodePoint}
 use Rattle.monitor_report.specs.Points.{NodeAnswer, nodeAnswer, lastAnswer, pointAnswer, benchAnswers, signalsIn, benchTotals}

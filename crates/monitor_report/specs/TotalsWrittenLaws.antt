@@ -8,7 +8,7 @@ use Rattle.write.specs.Wrote.{Wrote}
 use Rattle.write.specs.PartsWritten.{joined, PartsWritten}
 use Rattle.write.specs.PartsWrittenLaws.{parts-start, parts-more, parts-done}
 use Rattle.monitor_text.specs.Readings.{nodeCount}
-use Rattle.monitor_report.specs.MonitorLines.{totalLine, totalRoom}
+use Rattle.monitor_lines.specs.MonitorLines.{totalLine, totalRoom}
 use Rattle.monitor_report.specs.declared.nodes.Node.{Node}
 use Rattle.monitor_report.specs.Points.{NodeTotal, totalLines}
 use Rattle.monitor_report.specs.Nodes.{freshNode, totalOf, totalsOf}

@@ -1,9 +1,9 @@
 // One core of the bench: its monitor, its points and its signals; and the last lines, one for each node that has points.
-use crate::PointLine;
-use crate::TotalLine;
-use crate::put_total;
 use monitor::Monitor;
 use monitor::Taken;
+use monitor_lines::PointLine;
+use monitor_lines::TotalLine;
+use monitor_lines::put_total;
 use monitor_text::NODES;
 use rules::RuleList;
 ghost use mathlib.Core.Path.{_≡_};
@@ -16,7 +16,7 @@ ghost use Rattle.rules.specs.InBounds.{AllInBounds};
 ghost use Rattle.window.specs.State.{validState};
 ghost use Rattle.write.specs.Wrote.{Wrote};
 ghost use Rattle.monitor_text.specs.Readings.{nodeCount};
-ghost use Rattle.monitor_report.specs.MonitorLines.{totalRoom};
+ghost use Rattle.monitor_lines.specs.MonitorLines.{totalRoom};
 ghost use Rattle.monitor_report.specs.Points.{totalLines};
 ghost use Rattle.monitor_report.specs.Nodes.{freshNode, nodeTaken, totalOf, totalsOf};
 

@@ -2,11 +2,11 @@
 use crate::nodes::chart_point;
 use crate::nodes::fresh_node;
 use crate::nodes::put_totals;
-use crate::put_point;
 use decimal::Found;
 use decimal::signed_value;
 use monitor::Chart;
 use monitor::zone::zone_at;
+use monitor_lines::put_point;
 use monitor_text::NODES;
 use rules::RuleList;
 use text::line_at;
@@ -20,7 +20,7 @@ ghost use Rattle.write.specs.Wrote.{Wrote};
 ghost use Rattle.grammar.specs.Size.{maxText};
 ghost use Rattle.monitor_text.specs.Readings.{nodeCount, OnBench};
 ghost use Rattle.monitor_text.specs.MonitorText.{pointsAt};
-ghost use Rattle.monitor_report.specs.MonitorLines.{pointRoom, totalRoom};
+ghost use Rattle.monitor_lines.specs.MonitorLines.{pointRoom, totalRoom};
 ghost use Rattle.monitor_report.specs.Points.{benchBytes};
 ghost use Rattle.monitor_report.specs.Nodes.{takenChart};
 

@@ -1,7 +1,7 @@
 // The figures of one chart that sources publish.
 use crate::decimal::Exact;
-use bracket::BracketAnswer;
 use bracket::Bracket;
+use bracket::BracketAnswer;
 use rules::Rule;
 use rules::RuleList;
 use rules::ZONES;

@@ -1,11 +1,11 @@
--- `monitor_report::put_total` meets its contract: three fields, LF.
+-- `monitor_lines::put_total` meets its contract: three fields, LF.
 use borrow.Author.Needs.{needs}
 use native.Mathlib.Omega.{arith}
 use Rattle.write.specs.WroteLaws.{then}
 use Rattle.write.specs.FieldLaws.{field-short}
-use Rattle.monitor_report.specs.MonitorLines.{totalLine}
-use Rattle.monitor_report.proofs.lines.put_total.Statement.{statement}
-use Rattle.monitor_report.proofs.lines.put_total.Tie as tie
+use Rattle.monitor_lines.specs.MonitorLines.{totalLine}
+use Rattle.monitor_lines.proofs.lines.put_total.Statement.{statement}
+use Rattle.monitor_lines.proofs.lines.put_total.Tie as tie
 
 slice-aggregate-put-named : tie.Need-slice-aggregate-put-named
 slice-aggregate-put-named c = search needs

@@ -5,7 +5,7 @@ use write::put_named;
 ghost use Prim.Native.Nat.{_+_, _≤_};
 ghost use lib.ListN.{length};
 ghost use Rattle.write.specs.Wrote.{Wrote};
-ghost use Rattle.monitor_report.specs.MonitorLines.{pointBytes, pointRoom, totalLine, totalRoom};
+ghost use Rattle.monitor_lines.specs.MonitorLines.{pointBytes, pointRoom, totalLine, totalRoom};
 
 // `signal`, four fields of 32 bits, LF: the longest line of a point.
 pub const POINT_ROOM: usize = 6 + 4 * write::SHORT_FIELD + 1;

@@ -1,4 +1,4 @@
--- `monitor_report::put_point` meets its contract: three fields and LF for a quiet point, four fields and LF for a signal.
+-- `monitor_lines::put_point` meets its contract: three fields and LF for a quiet point, four fields and LF for a signal.
 use Prim.Native.Nat.{ℕ}
 use mathlib.Core.Path.{_≡_}
 use mathlib.Core.List.{List}
@@ -8,12 +8,12 @@ use mir.Val.{Fits}
 use Rattle.write.specs.Wrote.{Wrote}
 use Rattle.write.specs.WroteLaws.{then}
 use Rattle.write.specs.FieldLaws.{field-short}
-use Rattle.monitor_report.specs.declared.lines.PointLine.{PointLine}
-use Rattle.monitor_report.specs.declared.lines.PointLine.the-variants.{Quiet, Signal}
-use Rattle.monitor_report.specs.MonitorLines.{quietLine, signalLine, pointBytes}
+use Rattle.monitor_lines.specs.declared.lines.PointLine.{PointLine}
+use Rattle.monitor_lines.specs.declared.lines.PointLine.the-variants.{Quiet, Signal}
+use Rattle.monitor_lines.specs.MonitorLines.{quietLine, signalLine, pointBytes}
 use borrow.Author.Needs.{needs}
-use Rattle.monitor_report.proofs.lines.put_point.Statement.{statement}
-use Rattle.monitor_report.proofs.lines.put_point.Tie as tie
+use Rattle.monitor_lines.proofs.lines.put_point.Statement.{statement}
+use Rattle.monitor_lines.proofs.lines.put_point.Tie as tie
 
 module _ {a b : List ℕ} {i r : ℕ} {p : PointLine} {node n period : ℕ} where
   wrote-quiet : p ≡ Quiet node n period → Wrote a i b r (quietLine node n period) → Wrote a i b r (pointBytes p)

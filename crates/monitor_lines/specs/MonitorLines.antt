@@ -3,8 +3,8 @@ use Prim.Native.Nat.{ℕ, _+_}
 use mathlib.Core.List.{List, [], _∷_, _++_}
 use lib.ListN.{length}
 use Rattle.decimal.specs.Word.{newline}
-use Rattle.monitor_report.specs.declared.lines.PointLine.{PointLine}
-use Rattle.monitor_report.specs.declared.lines.PointLine.the-variants.{Quiet, Signal}
+use Rattle.monitor_lines.specs.declared.lines.PointLine.{PointLine}
+use Rattle.monitor_lines.specs.declared.lines.PointLine.the-variants.{Quiet, Signal}
 use Rattle.write.specs.Field.{field, shortField}
 
 -- `quiet`

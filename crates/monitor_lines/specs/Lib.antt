@@ -1,0 +1,2 @@
+-- The monitor program's lines: definitions.
+pub mod MonitorLines
