@@ -8,7 +8,7 @@ use Rattle.bracket.specs.Limits.{minStates, minPercent, maxPercent}
 use Rattle.runlength.specs.Chain.{cdfOf}
 
 -- none of 12 to 15 applies
-pub record Accepted (pmf : List ℕ) (count p : ℕ) : Type 0 where
+pub record AcceptedBracket (pmf : List ℕ) (count p : ℕ) : Type 0 where
   pub not-empty : minHorizon ≤ length pmf
   pub short : length pmf ≤ maxHorizon
   pub some-states : minStates ≤ count

@@ -17,11 +17,11 @@ use Rattle.runlength.specs.Scale.{unitsPerOne, percentsPerOne}
 use Rattle.runlength.specs.Chain.{cdfOf}
 use Rattle.bracket.specs.Bracket.{reaches, passes, highTest, lowTest, bracketBy, percentileBracket, bracketOf}
 use Rattle.bracket.specs.Contains.{BracketContains}
-use Rattle.bracket.specs.AcceptedBracket as Call
+use Rattle.bracket.specs.AcceptedBracket.{AcceptedBracket}
 use Rattle.bracket.specs.RefusedLaws.{answered}
 
 -- an accepted call is answered by its bracket
-pub accepted-bracket : (pmf : List ℕ) (count p : ℕ) → Call.Accepted pmf count p → bracketOf pmf count p ≡ Accepted (percentileBracket pmf count p)
+pub accepted-bracket : (pmf : List ℕ) (count p : ℕ) → AcceptedBracket pmf count p → bracketOf pmf count p ≡ Accepted (percentileBracket pmf count p)
 accepted-bracket pmf count p a =
     answered pmf count p (a .not-empty) (a .short) (a .some-states) (a .few-states) (a .some-percent) (a .part-percent)
     (le-leb (cdfOf pmf (length pmf)) unitsPerOne (a .total))

@@ -15,7 +15,7 @@ ghost use Rattle.runlength.specs.Scale.{unitsPerOne};
 ghost use Rattle.runlength.specs.Chain.{cdfOf};
 ghost use Rattle.bracket.specs.declared.BracketAnswer.the-variants.{Refused};
 ghost use Rattle.bracket.specs.Bracket.{bracketBy, percentileBracket, bracketOf};
-ghost use Rattle.bracket.specs.AcceptedBracket.{Accepted};
+ghost use Rattle.bracket.specs.AcceptedBracket.{AcceptedBracket};
 ghost use Rattle.bracket.specs.Crossing.{optionOf};
 
 mod search;
@@ -91,7 +91,7 @@ fn bracket_by(low: Crossing, high: Crossing, len: u32) -> Bracket
 
 // The bracket of a percentile, where none of the bracket's refusals applies. For the crates of this repository: it has a `requires`.
 pub fn find_bracket(pmf: &[u64], state_count: u32, percent: u32) -> Bracket
-    requires { ⌜ Accepted (now pmf) «state_count» percent ⌝ }
+    requires { ⌜ AcceptedBracket (now pmf) «state_count» percent ⌝ }
     ensures { λ r. ⌜ r ≡ percentileBracket (now (pmf .entry)) «state_count» percent ⌝ }
 {
     let low = lower(pmf, state_count, percent);

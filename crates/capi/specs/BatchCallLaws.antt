@@ -8,10 +8,10 @@ use Rattle.rules.specs.declared.RuleList.{RuleList}
 use Rattle.monitor.specs.declared.Monitor.{Monitor}
 use Rattle.batch.specs.declared.Batch.{Batch}
 use Rattle.batch.specs.Batch.{batchOf}
-use Rattle.codes.specs.Codes.{codeOf}
-use Rattle.capi.specs.MonitorCall.{stateAs, pointsAs}
-use Rattle.capi.specs.BatchCall.{batchChecked, batchAs, BatchCall}
-use Rattle.codes.specs.Codes.{checkCode, codeOf}
+use Rattle.call_arrays.specs.StepArrays.{stateAs, pointsAs}
+use Rattle.call_arrays.specs.BatchArrays.{batchChecked, batchAs}
+use Rattle.capi.specs.BatchCall.{BatchCall}
+use Rattle.codes.specs.Codes.{checkCode}
 
 module _ (b : Batch) (s p a : List ℕ) (r : ℕ) (code : r ≡ checkCode (batchChecked b)) where
   pub batch-refused : (r ≡ 0 → ⊥) → BatchCall b s p a s p a r
@@ -25,16 +25,7 @@ module _ (b : Batch) (s p a : List ℕ) (r : ℕ) (code : r ≡ checkCode (batch
       let t = eq-eqb (checkCode (batchChecked b)) 0 zero in
       record { code = sym zero; state = rw t es; points = rw t ep; answer = rw t ea }
 
-pub taken-code : (b : Batch) → (b .taken ≡ 0 → ⊥) → 0 ≡ checkCode (batchChecked b)
-taken-code b n = rw (ne-eqb (b .taken) 0 n)
-
 -- no reading was taken: for want of one, or for a refusal
-module _ (b : Batch) (none : b .taken ≡ 0) where
-  pub unrefused-code : b .refusal .number ≡ 0 → 0 ≡ checkCode (batchChecked b)
-  unrefused-code z = rw (eq-eqb (b .taken) 0 none, eq-eqb (b .refusal .number) 0 z)
-
-  pub refused-code : (b .refusal .number ≡ 0 → ⊥) → {r : ℕ} → r ≡ codeOf (b .refusal) → r ≡ checkCode (batchChecked b)
-  refused-code n e = e ∙ rw (eq-eqb (b .taken) 0 none, ne-eqb (b .refusal .number) 0 n)
 
 -- x is the batch of the list k that the call made of the slots, and of the centre c as it was read back
 pub same-batch : {l k : RuleList} {centre c : ℤ} → k ≡ l → c ≡ centre → (m : Monitor) (sigma : ℕ) (xs : List ℤ) (x : Batch)

@@ -12,6 +12,7 @@ use Rattle.monitor.specs.Zone.{zoneOf}
 use Rattle.monitor.specs.Step.{monitorAt, stepOf}
 use Rattle.rules.specs.declared.Checked.{Checked}
 use Rattle.codes.specs.Codes.{checkCode}
+use Rattle.call_arrays.specs.StepArrays.{stateAs, pointsAs, answerAs}
 
 -- ---- the zone of a reading
 
@@ -33,16 +34,6 @@ pub record ZoneCall (reading centre : ℤ) (sigma : ℕ) (z z′ : List ℕ) (r 
 -- the monitor that the caller keeps: a state and the points counted, each in an array of one number
 abbrev pub monitorOf : List ℕ → List ℕ → Monitor
 monitorOf state points = monitorAt (getD state 0 0) (getD points 0 0)
-
-abbrev pub stateAs : Monitor → List ℕ → List ℕ
-stateAs m state = set state 0 (m .state)
-
-abbrev pub pointsAs : Monitor → List ℕ → List ℕ
-pointsAs m points = set points 0 (m .count)
-
--- the count with the point in it, and the mask, 0 for quiet
-abbrev pub answerAs : ℕ → ℕ → List ℕ → List ℕ
-answerAs count mask answer = set (set answer 0 count) 1 mask
 
 -- whether the answer accepts
 abbrev pub stepChecked : Step → Checked

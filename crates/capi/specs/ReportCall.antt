@@ -3,20 +3,9 @@ use Prim.Native.Nat.{ℕ}
 use mathlib.Core.Path.{_≡_}
 use mathlib.Core.List.{List}
 use lib.ListN.{length, set}
-use Rattle.write.specs.declared.ReportAnswer.{ReportAnswer}
-use Rattle.write.specs.declared.ReportAnswer.the-variants.{Written}
 use Rattle.write.specs.Printed.{Printed, lines, refusedBy, reportOf}
 use Rattle.rules.specs.declared.Checked.{Checked}
 use Rattle.codes.specs.Codes.{checkCode}
-
--- whether a report's answer accepts, and what the count's array of one number then holds
-abbrev pub answerChecked : ReportAnswer → Checked
-answerChecked (Written n) = Checked.Accepted
-answerChecked (ReportAnswer.Refused x) = Checked.Refused x
-
-abbrev pub answerCount : ReportAnswer → List ℕ → List ℕ
-answerCount (Written n) count = set count 0 n
-answerCount (ReportAnswer.Refused x) count = count
 
 abbrev pub printedChecked : Printed → Checked
 printedChecked (lines bytes) = Checked.Accepted

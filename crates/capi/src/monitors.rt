@@ -1,4 +1,5 @@
 // The monitor for callers in C and Rust. It is kept by the caller as two numbers: the state and the points counted, both 0 at the start.
+use call_arrays::write_step;
 use codes::code;
 use codes::list_of;
 use codes::sizes::SLOTS;
@@ -9,7 +10,7 @@ use monitor::zone::ZoneAnswer;
 use monitor::zone::zone_of;
 ghost use mathlib.Core.Path.{_≡_};
 ghost use Rattle.codes.specs.Codes.{slotList};
-ghost use Rattle.capi.specs.MonitorCall.{monitorOf, stateAs, pointsAs, answerAs, ZoneCall, StepCall};
+ghost use Rattle.capi.specs.MonitorCall.{monitorOf, ZoneCall, StepCall};
 
 // The zone of a reading: `monitor::zone::zone_of`. Answers 0 and writes the zone; or answers the refusal and alters nothing.
 #[no_mangle]
@@ -23,25 +24,6 @@ pub extern "C" fn catrovindy_zone(reading: i32, centre: i32, sigma: u32, zone: &
             0
         }
     }
-}
-
-// The monitor for the next point, and the count and the mask of this one.
-fn write_step(
-    state: &mut [u64; 1],
-    points: &mut [u32; 1],
-    answer: &mut [u32; STEP_ANSWER],
-    next: Monitor,
-    count: u32,
-    mask: u32,
-)
-    ensures { λ r. ⌜ now (state .exit) ≡ stateAs next (now (state .entry)) ⌝ }
-    ensures { λ r. ⌜ now (points .exit) ≡ pointsAs next (now (points .entry)) ⌝ }
-    ensures { λ r. ⌜ now (answer .exit) ≡ answerAs count mask (now (answer .entry)) ⌝ }
-{
-    state[0] = next.state;
-    points[0] = next.count;
-    answer[0] = count;
-    answer[1] = mask;
 }
 
 // One point: `Monitor::step`. Answers 0, with the monitor for the next point, and in `answer` the count with this point in it and the mask

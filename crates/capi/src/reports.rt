@@ -1,25 +1,10 @@
 // The programs' reports for callers in C and Rust.
-use codes::code;
-use write::ReportAnswer;
+use call_arrays::report_code;
 ghost use mathlib.Core.Path.{_≡_};
 ghost use Rattle.table_report.specs.TableReport.{tablePrinted};
 ghost use Rattle.monitor_report.specs.MonitorReport.{monitorPrinted};
 ghost use Rattle.weights_report.specs.WeightsReport.{weightsPrinted};
-ghost use Rattle.codes.specs.Codes.{checkCode};
-ghost use Rattle.capi.specs.ReportCall.{answerChecked, answerCount, ReportCall};
-
-// The code of a report's answer, and its number of bytes in `bytes`.
-fn report_code(answer: ReportAnswer, bytes: &mut [u64; 1]) -> u64
-    ensures { λ r. ⌜ (r ≡ checkCode (answerChecked answer)) × (now (bytes .exit) ≡ answerCount answer (now (bytes .entry))) ⌝ }
-{
-    match answer {
-        ReportAnswer::Refused(r) => code(r),
-        ReportAnswer::Written(n) => {
-            bytes[0] = n as u64;
-            0
-        }
-    }
-}
+ghost use Rattle.capi.specs.ReportCall.{ReportCall};
 
 // The table program's lines for a text: `table_report::table_report`. Answers 0, with the lines in `out` and their number of bytes in `bytes`; or
 // answers the refusal and alters nothing.

@@ -32,7 +32,7 @@ use Rattle.weights_report.specs.WeightsReport.{weightsPrinted}
 use Rattle.write.specs.Refused.{refusedLine}
 use Rattle.codes.specs.Codes.{checkCode}
 use Rattle.capi.specs.MonitorCall.{zoneChecked, stepChecked}
-use Rattle.capi.specs.BatchCall.{batchChecked}
+use Rattle.call_arrays.specs.BatchArrays.{batchChecked}
 use Rattle.capi.specs.TableCall.{tableChecked}
 use Rattle.capi.specs.BracketCall.{bracketChecked}
 use Rattle.capi.specs.PlotCall.{plotChecked}

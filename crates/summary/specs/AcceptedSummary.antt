@@ -7,7 +7,7 @@ use Rattle.runlength.specs.Scale.{minHorizon, maxHorizon}
 use Rattle.table.specs.Table.{TableCall, pmfOf}
 use Rattle.table.specs.AcceptedTable.{AcceptedTable}
 use Rattle.bracket.specs.Limits.{minPercent, maxPercent}
-use Rattle.bracket.specs.AcceptedBracket.{Accepted}
+use Rattle.bracket.specs.AcceptedBracket.{AcceptedBracket}
 use Rattle.summary.specs.declared.Summary.{Summary}
 use Rattle.summary.specs.Summary.{summaryBy}
 use Rattle.summary.specs.ErrorBoundLaws.{maxErrorBound}
@@ -17,11 +17,11 @@ pub record Summarizable (pmf : List ℕ) (count h : ℕ) : Type 0 where
   pub few : count ≤ maxStates
   pub some-horizon : minHorizon ≤ h
   pub most-horizon : h ≤ maxHorizon
-  pub brackets : (p : ℕ) → minPercent ≤ p → p ≤ maxPercent → Accepted pmf count p
+  pub brackets : (p : ℕ) → minPercent ≤ p → p ≤ maxPercent → AcceptedBracket pmf count p
 
 -- the summary of an accepted table call, which no bracket of it is refused
 pub record AcceptedSummary (t : TableCall) (s : Summary) : Type 0 where
   pub table : AcceptedTable t (s .figures)
   pub is : s ≡ summaryBy (pmfOf t) (s .figures) (t .horizon)
-  pub brackets : (p : ℕ) → minPercent ≤ p → p ≤ maxPercent → Accepted (pmfOf t) (s .figures .«state_count») p
+  pub brackets : (p : ℕ) → minPercent ≤ p → p ≤ maxPercent → AcceptedBracket (pmfOf t) (s .figures .«state_count») p
   pub error-most : s .«error_bound» ≤ maxErrorBound

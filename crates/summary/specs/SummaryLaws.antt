@@ -13,7 +13,7 @@ use Rattle.table.specs.Table.{TableCall, tableOf, pmfOf}
 use Rattle.table.specs.AcceptedTable.{AcceptedTable}
 use Rattle.table.specs.AcceptedTableLaws.{accepted-table}
 use Rattle.bracket.specs.Limits.{minPercent, maxPercent}
-use Rattle.bracket.specs.AcceptedBracket as Bracket
+use Rattle.bracket.specs.AcceptedBracket.{AcceptedBracket}
 use Rattle.summary.specs.declared.Summary.{Summary}
 use Rattle.summary.specs.declared.SummaryAnswer.the-variants.{Accepted, Refused}
 use Rattle.summary.specs.Summary.{summaryBy, summarized, summaryOf}
@@ -23,7 +23,7 @@ use Rattle.table.specs.Table.{CallResult, callResult}
 
 -- the bracket of exactly an accepted table's chances, with its N, is accepted for every percent
 pub brackets-accepted : {t : TableCall} {f : TableFigures} → AcceptedTable t f → (p : ℕ) → minPercent ≤ p → p ≤ maxPercent
-    → Bracket.Accepted (pmfOf t) (f .«state_count») p
+    → AcceptedBracket (pmfOf t) (f .«state_count») p
 brackets-accepted {t} {f} a p low high = record {
   not-empty = omega (arith, a .pmf-length, a .chain .some-horizon);
   short = omega (arith, a .pmf-length, a .chain .most-horizon);

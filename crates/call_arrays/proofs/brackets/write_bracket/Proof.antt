@@ -3,10 +3,10 @@ use mathlib.Core.Path.{sym, ap, _∙_}
 use mathlib.Core.List.{List}
 use Prim.Native.Nat.{ℕ}
 use Rattle.bracket.specs.declared.Bracket.{Bracket}
-use Rattle.capi.specs.BracketCall.{bracketAs}
+use Rattle.call_arrays.specs.BracketArrays.{bracketAs}
 use borrow.Author.Needs.{needs}
-use Rattle.capi.proofs.brackets.write_bracket.Statement.{statement}
-use Rattle.capi.proofs.brackets.write_bracket.Tie as tie
+use Rattle.call_arrays.proofs.brackets.write_bracket.Statement.{statement}
+use Rattle.call_arrays.proofs.brackets.write_bracket.Tie as tie
 
 enum-known-found : tie.Need-enum-known-found
 enum-known-found c = search needs

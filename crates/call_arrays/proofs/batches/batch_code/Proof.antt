@@ -1,10 +1,10 @@
 -- `batches::batch_code` meets its contract.
 use mathlib.Core.Path.{_≡_, _∙_, sym}
 use native.Mathlib.Omega.{arith}
-use Rattle.capi.specs.BatchCallLaws.{taken-code, unrefused-code, refused-code}
+use Rattle.call_arrays.specs.BatchCodeLaws.{taken-code, unrefused-code, refused-code}
 use borrow.Author.Needs.{needs}
-use Rattle.capi.proofs.batches.batch_code.Statement.{statement}
-use Rattle.capi.proofs.batches.batch_code.Tie as tie
+use Rattle.call_arrays.proofs.batches.batch_code.Statement.{statement}
+use Rattle.call_arrays.proofs.batches.batch_code.Tie as tie
 
 returns : tie.Need-returns
 returns c = taken-code (c .before .before .before .args .found) (λ z. omega (arith, c .if1 .taken))

@@ -1,8 +1,8 @@
 -- `reports::report_code` meets its contract: by the report's answer.
-use Rattle.capi.specs.ReportCallLaws.{written-code, refused-code}
+use Rattle.call_arrays.specs.ReportCodeLaws.{written-code, refused-code}
 use borrow.Author.Needs.{needs}
-use Rattle.capi.proofs.reports.report_code.Statement.{statement}
-use Rattle.capi.proofs.reports.report_code.Tie as tie
+use Rattle.call_arrays.proofs.reports.report_code.Statement.{statement}
+use Rattle.call_arrays.proofs.reports.report_code.Tie as tie
 
 enum-known-answer : tie.Need-enum-known-answer
 enum-known-answer c = search needs
