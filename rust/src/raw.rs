@@ -153,7 +153,7 @@ const fn start_mut<T>(list: *mut T, length: usize) -> *mut T {
 /// Declares functions of the library that take lists, and gives each of them with lists that may be null where they are empty. Behind `where`
 /// stands by which function the start of a list is found, and which parameter is its length.
 macro_rules! with_lists {
-    ($($(#[$text:meta])* fn $name:ident($($parameter:ident: $kind:ty),* $(,)?) where $($list:ident = $start:ident($length:ident)),*;)*) => {
+    ($($(#[$text:meta])* fn $name:ident($($parameter:ident: $kind:ty),* $(,)?) -> u64 where $($list:ident = $start:ident($length:ident)),*;)*) => {
         mod listed {
             extern "C" {
                 $(pub fn $name($($parameter: $kind),*) -> u64;)*
@@ -186,7 +186,7 @@ with_lists! {
         readings: *const i32,
         length: usize,
         answer: *mut u64,
-    ) where readings = start(length);
+    ) -> u64 where readings = start(length);
 
     /// The run-length table: the code.
     ///
@@ -203,7 +203,7 @@ with_lists! {
         survival: *mut u64,
         survival_length: usize,
         figures: *mut u64,
-    ) where pmf = start_mut(pmf_length), survival = start_mut(survival_length);
+    ) -> u64 where pmf = start_mut(pmf_length), survival = start_mut(survival_length);
 
     /// The bracket of a percentile: the code.
     ///
@@ -215,7 +215,7 @@ with_lists! {
         state_count: u32,
         percent: u32,
         answer: *mut u32,
-    ) where pmf = start(pmf_length);
+    ) -> u64 where pmf = start(pmf_length);
 
     /// The plot record: the code.
     ///
@@ -233,25 +233,25 @@ with_lists! {
         survival_length: usize,
         kinds: *mut u32,
         values: *mut f64,
-    ) where pmf = start_mut(pmf_length), survival = start_mut(survival_length);
+    ) -> u64 where pmf = start_mut(pmf_length), survival = start_mut(survival_length);
 
     /// The table program's lines for a text: the code.
     ///
     /// # Safety
     /// `text` are as many bytes as `length` says; `out` are [`TABLE_SIZE`](crate::TABLE_SIZE) bytes and `bytes` one number, written only.
-    fn catrovindy_table_report(text: *const u8, length: usize, out: *mut u8, bytes: *mut u64) where text = start(length);
+    fn catrovindy_table_report(text: *const u8, length: usize, out: *mut u8, bytes: *mut u64) -> u64 where text = start(length);
 
     /// The monitor program's lines for a text: the code.
     ///
     /// # Safety
     /// `text` are as many bytes as `length` says; `out` are [`MONITOR_SIZE`](crate::MONITOR_SIZE) bytes and `bytes` one number, written only.
-    fn catrovindy_monitor_report(text: *const u8, length: usize, out: *mut u8, bytes: *mut u64) where text = start(length);
+    fn catrovindy_monitor_report(text: *const u8, length: usize, out: *mut u8, bytes: *mut u64) -> u64 where text = start(length);
 
     /// The weights program's line for a text: the code.
     ///
     /// # Safety
     /// `text` are as many bytes as `length` says; `out` are [`WEIGHTS_SIZE`](crate::WEIGHTS_SIZE) bytes and `bytes` one number, written only.
-    fn catrovindy_weights_report(text: *const u8, length: usize, out: *mut u8, bytes: *mut u64) where text = start(length);
+    fn catrovindy_weights_report(text: *const u8, length: usize, out: *mut u8, bytes: *mut u64) -> u64 where text = start(length);
 }
 
 #[cfg(test)]

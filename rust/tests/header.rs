@@ -419,9 +419,14 @@ fn header_functions() -> BTreeMap<String, Vec<Parameter>> {
 
 /// The functions that this crate declares; their arrays and lists are pointers alike.
 fn raw_functions() -> BTreeMap<String, Vec<Parameter>> {
-    let block = RAW.split_once("extern \"C\" {").expect("the declarations").1;
+    let block = |start: &str, end: &str| {
+        let behind = RAW.split_once(start).expect("the declarations").1;
+        &behind[..behind.find(end).expect("their end")]
+    };
+    let plain = block("extern \"C\" {", "\n    }").split("pub fn ").skip(1);
+    let with_lists = block("\nwith_lists! {", "\n}").split("\n    fn ").skip(1);
     let mut functions = BTreeMap::new();
-    for part in block[..block.find("\n    }").expect("their end")].split("pub fn ").skip(1) {
+    for part in plain.chain(with_lists) {
         let (name, rest) = part.split_once('(').expect("parameters");
         let mut parameters: Vec<Parameter> = Vec::new();
         let (texts, behind) = parameters_of(rest);
