@@ -4,6 +4,7 @@ use mathlib.Core.List.{List}
 use lib.ListN.{set}
 use Rattle.monitor.specs.declared.Monitor.{Monitor}
 
+-- the monitor for the next point: its state, and its count
 abbrev pub stateAs : Monitor → List ℕ → List ℕ
 stateAs m state = set state 0 (m .state)
 

@@ -42,7 +42,7 @@ module _ (rs : List Rule) (few : exploredCount rs ≤ maxStates) where
   index : {s : ℕ} → Met byState s → (i : ℕ) × At (met rs) i s
   index {s} m = states-all byState (few-met rs few) .index s m
 
-  -- a index has the future of its state
+  -- an index has the future of its state
   index-future : {i s : ℕ} → At (met rs) i s → EqualFuture (given rs) byState i s
   index-future p = simulation-future (given rs) byState (At (met rs)) (explored-simulation byState (few-met rs few)) p
 
@@ -107,7 +107,7 @@ module _ (rs : List Rule) (few : exploredCount rs ≤ maxStates) where
 
   -- ---- fewest
 
-  -- a index whose state is met has every property that the first index has and quiet moves keep
+  -- an index whose state is met has every property that the first index has and quiet moves keep
   module _ (P : ℕ → Type 0) (first : P 0)
       (on : (r t z : ℕ) → P r → z < zoneCount → given rs .move r z ≡ quiet t → P t) where
     one-index : (i j s : ℕ) → At (met rs) i s → At (met rs) j s → i ≡ j

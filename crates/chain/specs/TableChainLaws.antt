@@ -92,7 +92,7 @@ module _ (rs : List Rule) where
     abbrev stateOf : ℕ → ℕ
     stateOf c = at met (firstOf given n c)
 
-    -- a index of the list, as the relation of indices and states
+    -- an index of the list, as the relation of indices and states
     standing : (i : ℕ) → i < n → At met i (at met i)
     standing i l = record { below = l; is = refl }
 
@@ -103,7 +103,7 @@ module _ (rs : List Rule) where
         simulation-alike given (stateAutomaton rs) (At met) (explored-simulation (stateAutomaton rs) few-met) n i j (at met i) (at met j)
         (standing i h) (standing j l)
 
-    -- a index is of a class exactly where its state is alike to that of the class
+    -- an index is of a class exactly where its state is alike to that of the class
     by-class : (i c : ℕ) → i < n → c < classCount given n → eqb (classOf given n i) c ≡ alikeStates rs (at met i) (stateOf c)
     by-class i c h l =
         let s = firstOf given n c in
@@ -136,7 +136,7 @@ module _ (rs : List Rule) where
         go (quiet t) = refl
         go signal = refl
 
-    -- a move of a index is that of its state
+    -- a move of an index is that of its state
     moved : (i z : ℕ) → i < n → z < zoneCount → Alike (At met) (given .move i z) (stateAutomaton rs .move (at met i) z)
     moved i z l h = explored-simulation (stateAutomaton rs) few-met .kept i (at met i) (standing i l) z h
 

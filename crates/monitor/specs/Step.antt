@@ -30,6 +30,10 @@ abbrev pub stepAnswer : Move → ℕ → Step
 stepAnswer (Quiet t) count = Step.Quiet count (monitorAt t count)
 stepAnswer (Signal mask) count = Step.Signal count mask freshMonitor
 
+-- by the point's move, where nothing is refused
+abbrev pub movedStep : List Rule → Monitor → ℕ → Step
+movedStep rs m z = stepAnswer (moveOf rs (m .state) z) (m .count + 1)
+
 -- what a point is refused by, with rules that are accepted: 6, then 5, then 7
 abbrev pub pointCheck : List Rule → Monitor → ℕ → Checked
 pointCheck rs m z =
@@ -48,7 +52,7 @@ stepBy (Checked.Refused x) answer = Refused x
 
 -- a step with rules that are accepted
 unfoldable pub acceptedStep : List Rule → Monitor → ℕ → Step
-acceptedStep rs m z = stepBy (pointCheck rs m z) (stepAnswer (moveOf rs (m .state) z) (m .count + 1))
+acceptedStep rs m z = stepBy (pointCheck rs m z) (movedStep rs m z)
 
 unfoldable pub stepOf : RuleList → Monitor → ℕ → Step
-stepOf l m z = stepBy (stepCheck l m z) (stepAnswer (moveOf (activeRules l) (m .state) z) (m .count + 1))
+stepOf l m z = stepBy (stepCheck l m z) (movedStep (activeRules l) m z)

@@ -131,7 +131,7 @@ snoc-distinct f t d fresh = record {
       (λ l q. fresh i l (sym (List·getD-append f (t ∷ []) 0 i l) ∙ q ∙ getD-append-seam f t [] 0)) j (omega (arith, snoc-length f t)) l;
 }
 
--- ---- the search for a index, from the index i on
+-- ---- the search for an index, from the index i on
 
 index-hit : (t : ℕ) (xs : List ℕ) (i : ℕ) → i < length xs → getD xs i 0 ≡ t → indexOf t (drop i xs) ≡ 0
 unfolding indexOf

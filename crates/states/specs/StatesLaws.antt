@@ -81,7 +81,7 @@ module _ (a : Automaton ℕ) where
     entry-alike x signal p = rw (le-ltb x (length (states a)) (omega arith)) tt
     entry-alike x (quiet t) p = rw (lt-ltb x (length (states a)) (p .below)) p
 
-    -- a index moves as the state that stands there
+    -- an index moves as the state that stands there
     pub explored-simulation : Simulation (listedAutomaton (a .zones) (length (states a)) (moves a)) a (At (states a))
     explored-simulation = record {
       same-zones = refl;

@@ -1,4 +1,4 @@
--- `batches::batch_code` meets its contract.
+-- `batch_code` meets its contract.
 use mathlib.Core.Path.{_≡_, _∙_, sym}
 use native.Mathlib.Omega.{arith}
 use Rattle.call_arrays.specs.BatchCodeLaws.{taken-code, unrefused-code, refused-code}

@@ -1,4 +1,4 @@
--- `capi::write_bracket` meets its contract: each arm is one case of the definition.
+-- `write_bracket` meets its contract: each arm is one case of the definition.
 use mathlib.Core.Path.{sym, ap, _∙_}
 use mathlib.Core.List.{List}
 use Prim.Native.Nat.{ℕ}

@@ -1,4 +1,4 @@
--- `parse::no_rules` meets its contract: every slot and the length.
+-- `no_rules` meets its contract: every slot and the length.
 use borrow.Author.Needs.{needs}
 use Rattle.rule_lines.specs.Rules.{ruleListOf, slotsOf}
 use Rattle.rule_lines.proofs.rule_lines.no_rules.Statement.{statement}

@@ -1,4 +1,4 @@
--- `parse::push` meets its contract: with a slot left, and without.
+-- `push` meets its contract: with a slot left, and without.
 use borrow.Author.Needs.{needs}
 use borrow.Author.Tests.{le-leb, lt-leb}
 use native.Mathlib.Omega.{arith}

@@ -1,4 +1,4 @@
--- `explore::explore` meets its contract: after k turns the two lists hold the worklist as it is after k turns.
+-- `explore` meets its contract: after k turns the two lists hold the worklist as it is after k turns.
 use Prim.Native.Nat.{_*_, _-_}
 use mathlib.Core.Path.{sym, _∙_}
 use native.Mathlib.Omega.{arith}

@@ -1,4 +1,4 @@
--- `explore::index_of` meets its contract: the index from the front is i more than the index from i on.
+-- `index_of` meets its contract: the index from the front is i more than the index from i on.
 use Prim.Native.Nat.{_≤_, _-_}
 use native.Mathlib.Omega.{arith}
 use Rattle.runlength.specs.IndexLaws.{Searched, search-found, search-on, search-end}

@@ -1,4 +1,4 @@
--- `explore::visit` meets its contract: each return is one case of the move and of the state's index.
+-- `visit` meets its contract: each return is one case of the move and of the state's index.
 use Prim.Native.Nat.{ℕ}
 use mathlib.Core.Path.{_≡_, refl, sym, _∙_}
 use native.Mathlib.Omega.{arith}

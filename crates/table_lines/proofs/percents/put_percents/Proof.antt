@@ -1,4 +1,4 @@
--- `print::put_percents` meets its contract: five lines, one behind the other.
+-- `put_percents` meets its contract: five lines, one behind the other.
 use native.Mathlib.Omega.{arith}
 use Rattle.write.specs.WroteLaws.{then}
 use Rattle.table_lines.specs.PercentLine.{percentLines}

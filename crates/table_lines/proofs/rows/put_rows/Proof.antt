@@ -1,4 +1,4 @@
--- `print::put_rows` meets its contract. The invariant is `RowsWritten`: the rows up to i are written, and `cdf` is the sum of their chances.
+-- `put_rows` meets its contract. The invariant is `RowsWritten`: the rows up to i are written, and `cdf` is the sum of their chances.
 use borrow.Author.Needs.{needs}
 use Prim.Native.Nat.{_-_}
 use native.Mathlib.Omega.{arith}
