@@ -16,20 +16,21 @@ use Rattle.monitor.specs.declared.Step.{Step}
 use Rattle.monitor.specs.declared.Step.the-variants.{Refused, Quiet, Signal}
 use Rattle.monitor.specs.Reading.{readingStep, readingCheck, Readable}
 use Rattle.batch.specs.declared.Batch.{Batch}
+use Rattle.batch.specs.declared.LastPoint.{LastPoint}
 
 -- no reading taken: the monitor stays as it was given
 abbrev pub noneTaken : Refusal → Monitor → Batch
-noneTaken x m = record { taken = 0; refusal = x; count = m .count; mask = 0; next = m }
+noneTaken x m = record { taken = 0; refusal = x; count = m .count; last = LastPoint.Quiet; next = m }
 
 -- so many readings more were taken before
 abbrev pub after : ℕ → Batch → Batch
-after n b = record { taken = n + b .taken; refusal = b .refusal; count = b .count; mask = b .mask; next = b .next }
+after n b = record { taken = n + b .taken; refusal = b .refusal; count = b .count; last = b .last; next = b .next }
 
 -- by the first reading's step: refused, it is not taken; a signal is the last one taken; after a quiet one the rest are taken
 abbrev pub batchBy : Monitor → Step → (Monitor → Batch) → Batch
 batchBy m (Refused x) rest = noneTaken x m
 batchBy m (Signal count mask next) rest =
-    record { taken = 1; refusal = notRefused; count = count; mask = mask; next = next }
+    record { taken = 1; refusal = notRefused; count = count; last = LastPoint.Signal mask; next = next }
 batchBy m (Quiet count next) rest = after 1 (rest next)
 
 -- the readings from a monitor on, all with one rule list, centre and sigma

@@ -28,6 +28,7 @@ use Rattle.monitor.specs.ReadingLaws.{reading-bad-count, reading-taken, reading
 use Rattle.monitor.specs.Zone.{minSigma, maxSigma}
 use Rattle.batch.specs.declared.Batch.{Batch}
 use Rattle.batch.specs.Batch.{noneTaken, after, batchBy, readingsFrom, checkedBatch, batchOf, Ends, unrefused, full, Left}
+use Rattle.batch.specs.declared.LastPoint.{LastPoint}
 
 -- ---- the check
 
@@ -126,7 +127,7 @@ left-all l m centre sigma xs r =
 module _ {l : RuleList} {start : Monitor} {centre : ℤ} {sigma : ℕ} {xs : List ℤ} {m : Monitor} {i : ℕ}
     (left : Left l start centre sigma xs m i) where
   pub left-none : length xs ≤ i → readingsFrom l start centre sigma xs
-      ≡ record { taken = i; refusal = notRefused; count = m .count; mask = 0; next = m }
+      ≡ record { taken = i; refusal = notRefused; count = m .count; last = LastPoint.Quiet; next = m }
   unfolding readingsFrom
   left-none h = let e : i + 0 ≡ i = omega arith in left .same ∙ rw (drop-of-length-le xs h, e)
 
@@ -144,14 +145,14 @@ module _ {l : RuleList} {start : Monitor} {centre : ℤ} {sigma : ℕ} {xs : Lis
         (drop-cons xs i (pos 0) h ∙ ap (λ (t : ℕ). x ∷ drop t xs) (sym (add-one i)))
 
     pub left-full : maxNumber ≤ m .count → readingsFrom l start centre sigma xs
-        ≡ record { taken = i; refusal = badCount; count = m .count; mask = 0; next = m }
+        ≡ record { taken = i; refusal = badCount; count = m .count; last = LastPoint.Quiet; next = m }
     left-full q =
         let e : i + 0 ≡ i = omega arith in
         left-first ∙ rw (reading-bad-count l m centre sigma x (left .readable) q, e)
 
     -- the point at it
     pub left-signal : {mask : ℕ} → m .count < maxNumber → Taken.Signal mask ≡ pointAt l m centre sigma x → readingsFrom l start centre sigma xs
-        ≡ record { taken = i + 1; refusal = notRefused; count = m .count + 1; mask = mask; next = freshMonitor }
+        ≡ record { taken = i + 1; refusal = notRefused; count = m .count + 1; last = LastPoint.Signal mask; next = freshMonitor }
     left-signal q p = left-first ∙ rw (reading-taken l m centre sigma x (left .readable) q, ← p)
 
     pub left-quiet : {next : Monitor} → m .count < maxNumber → Taken.Quiet next ≡ pointAt l m centre sigma x → Left l start centre sigma xs next (i + 1)

@@ -12,14 +12,19 @@ ghost use Rattle.monitor.specs.Reading.{Readable};
 ghost use Rattle.batch.specs.Batch.{noneTaken, readingsFrom, batchOf};
 
 // How far the readings were taken. It stopped at a refusal where the refusal's number is not 0: where `taken` is 0 the batch is refused, else
-// reading `taken` met a full count and was not taken. It stopped at a signal where the mask is not 0: the last reading taken is the one that
-// signals. Else all were taken.
+// reading `taken` met a full count and was not taken. It stopped at a signal where the last reading taken is one. Else all were taken.
 pub struct Batch {
     pub taken: usize,
     pub refusal: Refusal,
     pub count: u32,
-    pub mask: u32,
+    pub last: LastPoint,
     pub next: Monitor,
+}
+
+// What the last reading that was taken is answered: quiet, also where none was, or signal with its mask.
+pub enum LastPoint {
+    Quiet,
+    Signal(u32),
 }
 
 // The refusal of a batch that refuses nothing.
@@ -64,7 +69,7 @@ fn take_accepted(
                 taken: i,
                 refusal: BAD_COUNT,
                 count: points,
-                mask: 0,
+                last: LastPoint::Quiet,
                 next: at,
             };
         }
@@ -75,7 +80,7 @@ fn take_accepted(
                     taken: i + 1,
                     refusal: NO_REFUSAL,
                     count: points + 1,
-                    mask,
+                    last: LastPoint::Signal(mask),
                     next: Monitor::fresh(),
                 };
             }
@@ -86,7 +91,7 @@ fn take_accepted(
         taken: i,
         refusal: NO_REFUSAL,
         count: at.count,
-        mask: 0,
+        last: LastPoint::Quiet,
         next: at,
     }
 }
@@ -99,7 +104,7 @@ fn none_taken(refusal: Refusal, monitor: Monitor) -> Batch
         taken: 0,
         refusal,
         count: monitor.count,
-        mask: 0,
+        last: LastPoint::Quiet,
         next: monitor,
     }
 }

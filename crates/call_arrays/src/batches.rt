@@ -1,11 +1,12 @@
 // A batch as a code, and in the arrays that a caller lends.
 use batch::Batch;
+use batch::LastPoint;
 use codes::code;
 use codes::sizes::BATCH_ANSWER;
 ghost use mathlib.Core.Path.{_≡_};
 ghost use Rattle.codes.specs.Codes.{checkCode};
 ghost use Rattle.call_arrays.specs.StepArrays.{stateAs, pointsAs};
-ghost use Rattle.call_arrays.specs.BatchArrays.{batchChecked, batchAs};
+ghost use Rattle.call_arrays.specs.BatchArrays.{batchChecked, maskAs, batchAs};
 
 // The refusal of a batch that took nothing, else 0.
 pub fn batch_code(found: Batch) -> u64
@@ -21,6 +22,16 @@ pub fn batch_code(found: Batch) -> u64
     code(refusal)
 }
 
+// The mask of the last reading, 0 for quiet.
+fn last_mask(last: LastPoint) -> u32
+    ensures { λ r. ⌜ r ≡ maskAs last ⌝ }
+{
+    match last {
+        LastPoint::Quiet => 0,
+        LastPoint::Signal(mask) => mask,
+    }
+}
+
 // The monitor for the next reading, and how far the batch came.
 pub fn write_batch(
     state: &mut [u64; 1],
@@ -34,10 +45,11 @@ pub fn write_batch(
 {
     let next = found.next;
     let refusal = found.refusal;
+    let last = found.last;
     state[0] = next.state;
     points[0] = next.count;
     answer[0] = found.taken as u64;
     answer[1] = found.count as u64;
-    answer[2] = found.mask as u64;
+    answer[2] = last_mask(last) as u64;
     answer[3] = refusal.number as u64;
 }

@@ -1,5 +1,6 @@
 // A rule list of two rules, and a batch with its printed answer.
 use batch::Batch;
+use batch::LastPoint;
 use batch::take_readings;
 use monitor::Monitor;
 use rules::Rule;
@@ -17,10 +18,19 @@ pub fn pair(first: Rule, second: Rule, len: u32) -> RuleList {
     RuleList { rules, len }
 }
 
+// The mask of the last reading, 0 for quiet.
+fn mask(last: LastPoint) {
+    match last {
+        LastPoint::Quiet => show::number(b" mask ", 0),
+        LastPoint::Signal(rules) => show::number(b" mask ", rules as u64),
+    }
+}
+
 fn answer(found: Batch) {
     show::number(b" taken ", found.taken as u64);
     show::number(b" count ", found.count as u64);
-    show::number(b" mask ", found.mask as u64);
+    let last = found.last;
+    mask(last);
     let next = found.next;
     show::number(b" then state ", next.state);
     show::number(b" count ", next.count as u64);

@@ -85,11 +85,11 @@ enum-known-next c = search needs
 enum-known-mask : tie.Need-enum-known-mask Inv-loop μ-loop
 enum-known-mask c = search needs
 
-add-t19 : tie.Need-add-t19 Inv-loop μ-loop
-add-t19 c = search needs
+add-t20 : tie.Need-add-t20 Inv-loop μ-loop
+add-t20 c = search needs
 
-add-t21 : tie.Need-add-t21 Inv-loop μ-loop
-add-t21 c = search needs
+add-t22 : tie.Need-add-t22 Inv-loop μ-loop
+add-t22 c = search needs
 
 fresh-requires : tie.Need-fresh-requires Inv-loop μ-loop
 fresh-requires c κs = search needs
@@ -148,8 +148,8 @@ take-accepted-spec =
     take-requires
     enum-known-next
     enum-known-mask
-    add-t19
-    add-t21
+    add-t20
+    add-t22
     fresh-requires
     returns-2
     add-i
