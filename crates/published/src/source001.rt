@@ -84,11 +84,11 @@ fn published(i: usize) -> [u64; 12]
 }
 
 // The figures for one of the lambdas, counted from 0.
-fn for_lambda(row: [u64; 12], lambda: usize) -> [u64; 4]
+fn for_lambda(entry: [u64; 12], lambda: usize) -> [u64; 4]
     requires { ⌜ lambda < 3 ⌝ }
 {
     let at = lambda * 4;
-    [row[at], row[at + 1], row[at + 2], row[at + 3]]
+    [entry[at], entry[at + 1], entry[at + 2], entry[at + 3]]
 }
 
 fn lines(tally: Tally, k: usize, f: Figures, published: [u64; 4]) -> Tally {
@@ -99,7 +99,7 @@ fn lines(tally: Tally, k: usize, f: Figures, published: [u64; 4]) -> Tally {
     line(t3, k, b": q3 ", f.quartile_3, published[3], 0)
 }
 
-fn row(tally: Tally, k: usize) -> Tally
+fn entry(tally: Tally, k: usize) -> Tally
     requires { ⌜ k < 48 ⌝ }
 {
     let printed = for_lambda(published(k / LAMBDAS), k % LAMBDAS);
@@ -113,7 +113,7 @@ fn row(tally: Tally, k: usize) -> Tally
 pub fn tables(tally: Tally) -> Tally {
     let mut all = tally;
     for k in 0..ROWS * LAMBDAS {
-        all = row(all, k);
+        all = entry(all, k);
     }
     all
 }

@@ -60,14 +60,14 @@ pub fn in_control() -> [u32; ZONES] {
     ]
 }
 
-fn chart(tally: Tally, row: [u64; 4]) -> Tally {
+fn chart(tally: Tally, entry: [u64; 4]) -> Tally {
     show::text(b"002 table 1 R1");
-    let two = with(figures::outside_limits(), row[0], 2, 2, 3, 64, 2);
-    let three = with(two, row[1], 3, 4, 5, 96, 6);
-    let four = with(three, row[2], 4, 9, 9, 112, 14);
-    let f = figures::of_chart(four, in_control(), figures::horizon_for(row[3] / 10000));
+    let two = with(figures::outside_limits(), entry[0], 2, 2, 3, 64, 2);
+    let three = with(two, entry[1], 3, 4, 5, 96, 6);
+    let four = with(three, entry[2], 4, 9, 9, 112, 14);
+    let f = figures::of_chart(four, in_control(), figures::horizon_for(entry[3] / 10000));
     let mean = f.mean;
-    compare::figure(tally, b": arl ", mean.in_places(4), row[3], 4)
+    compare::figure(tally, b": arl ", mean.in_places(4), entry[3], 4)
 }
 
 pub fn table(tally: Tally) -> Tally {

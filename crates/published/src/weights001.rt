@@ -33,8 +33,8 @@ pub fn setting(i: usize) -> [u32; 7]
 }
 
 // The four zones stand in the places of S, A1, B1 and C1.
-pub fn weights_of(row: [u32; 7]) -> [u32; ZONES] {
-    [row[3], row[4], row[5], row[6], 0, 0, 0, 0]
+pub fn weights_of(entry: [u32; 7]) -> [u32; ZONES] {
+    [entry[3], entry[4], entry[5], entry[6], 0, 0, 0, 0]
 }
 
 pub fn print(freedom: u32, r: u32, lambda: u32) {

@@ -21,8 +21,8 @@ use Rattle.runlength.specs.Scale.{weightTotal, unitsPerOne}
 use Rattle.runlength.specs.SetLaws.{getD-zeros}
 use Rattle.sources.specs.Sources.{come, CanListSources, SourcesListed}
 use Rattle.rows.specs.Rows.{chain, CanRun, Ran}
-use Rattle.row.specs.Arrivals.{Flows}
-use Rattle.row.specs.OneRow.{CanRow, RowDone, CanPoint, PointDone}
+use Rattle.next_row.specs.Arrivals.{Flows}
+use Rattle.next_row.specs.OneRow.{CanRow, RowDone, CanPoint, PointDone}
 use Rattle.rows.specs.Running.{Running, CanMean, MeanDone, Put}
 
 -- what comes in goes by the units of the states alone

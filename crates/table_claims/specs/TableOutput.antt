@@ -116,7 +116,7 @@ SameRow f g n = (f .pmf n ≡ g .pmf n) × (f .cdf n ≡ g .cdf n) × (f .surviv
 
 pub record SameFigures (h : ℕ) (f g : Figures) : Type 0 where
   pub count : f .count ≡ g .count
-  pub row : (n : ℕ) → 1 ≤ n → n ≤ h → SameRow f g n
+  pub rows : (n : ℕ) → 1 ≤ n → n ≤ h → SameRow f g n
   pub whole : f .whole ≡ g .whole
   pub fraction : f .fraction ≡ g .fraction
   pub errorBound : f .errorBound ≡ g .errorBound

@@ -59,10 +59,10 @@ rows-once f g (suc k) (suc k′) i xs ys e =
     let o = row-once i _ _ _ i _ _ _
     (sym (append-assoc (rowOf f i) (rowsFrom k (suc i) (rowOf f)) (97 ∷ xs)) ∙ e ∙ append-assoc (rowOf g i) (rowsFrom k′ (suc i) (rowOf g)) (97 ∷ ys)) in
     let r = rows-once f g k k′ (suc i) xs ys (o .4) in
-    (ap suc (r .0), (λ n p q. row n p q (o .1, o .2, o .3) (r .1)), r .2)
+    (ap suc (r .0), (λ n p q. of-row n p q (o .1, o .2, o .3) (r .1)), r .2)
   where
-    row : (n : ℕ) → i ≤ n → n < i + suc k → SameRow f g i → ((m : ℕ) → suc i ≤ m → m < suc i + k → SameRow f g m) → SameRow f g n
-    row n p q s t = go (ltb i n) refl
+    of-row : (n : ℕ) → i ≤ n → n < i + suc k → SameRow f g i → ((m : ℕ) → suc i ≤ m → m < suc i + k → SameRow f g m) → SameRow f g n
+    of-row n p q s t = go (ltb i n) refl
       where
         go : (b : Bool) → ltb i n ≡ b → SameRow f g n
         go true c = t n (omega (arith, ltb-true i n c)) (omega arith)
@@ -100,7 +100,7 @@ table-once h h′ f g e =
       c .0,
       record {
         count = a .0;
-        row = λ n p r. c .1 n p (omega arith);
+        rows = λ n p r. c .1 n p (omega arith);
         whole = d .0;
         fraction = d .1;
         errorBound = d .2;
@@ -116,13 +116,13 @@ same-hold {w} {rs} {h} {f} {g} e t =
     let c = t .contains in
     record {
       states-are = sym (e .count) ∙ t .states-are;
-      pmf-is = λ n i j. sym (e .row n i j .0) ∙ t .pmf-is n i j;
-      cdf-is = λ n i j. sym (e .row n i j .1) ∙ t .cdf-is n i j;
-      survival-is = λ n i j. sym (e .row n i j .2) ∙ t .survival-is n i j;
+      pmf-is = λ n i j. sym (e .rows n i j .0) ∙ t .pmf-is n i j;
+      cdf-is = λ n i j. sym (e .rows n i j .1) ∙ t .cdf-is n i j;
+      survival-is = λ n i j. sym (e .rows n i j .2) ∙ t .survival-is n i j;
       mean-is = rw (← e .whole, ← e .fraction) (t .mean-is);
       fraction-below = rw (← e .fraction) (t .fraction-below);
       error-is = rw (← e .errorBound, ← e .count) (t .error-is);
-      cdf-bounds = λ n i j. rw (← (e .row n i j .1), ← e .count) (t .cdf-bounds n i j);
+      cdf-bounds = λ n i j. rw (← (e .rows n i j .1), ← e .count) (t .cdf-bounds n i j);
       mean-bounds = rw (← e .whole, ← e .fraction, ← e .errorBound) (t .mean-bounds);
       contains = (rw (← (q .0)) (c .0), rw (← (q .1)) (c .1), rw (← (q .2)) (c .2), rw (← (q .3)) (c .3), rw (← (q .4)) (c .4));
     }

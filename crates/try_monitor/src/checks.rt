@@ -40,21 +40,21 @@ const CASES: [[u64; 10]; ALL] = [
     [2, 3, 2, 0, 0, 0, 1, 0, 0, 0],
 ];
 
-fn row(i: usize) -> [u64; 10]
+fn case_at(i: usize) -> [u64; 10]
     requires { ⌜ i < 24 ⌝ }
 {
     CASES[i]
 }
 
-fn one(row: [u64; 10]) {
-    let other = lists::rule_of(row[7], row[8], row[9]);
-    answers::checked(lists::listed(&row, other).check());
+fn one(case: [u64; 10]) {
+    let other = lists::rule_of(case[7], case[8], case[9]);
+    answers::checked(lists::listed(&case, other).check());
 }
 
 pub fn run(heading: &[u8]) {
     show::text(heading);
     for i in 0..ALL {
-        one(row(i));
+        one(case_at(i));
     }
 }
 

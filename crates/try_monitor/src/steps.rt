@@ -60,21 +60,21 @@ const CASES: [[u64; 10]; ALL] = [
     [2, 2, 2, 2, 2, 64, 2, 257, 9, 6],
 ];
 
-fn row(i: usize) -> [u64; 10]
+fn case_at(i: usize) -> [u64; 10]
     requires { ⌜ i < 25 ⌝ }
 {
     CASES[i]
 }
 
-fn one(row: [u64; 10]) {
-    let l = lists::listed(&row, NONE);
+fn one(case: [u64; 10]) {
+    let l = lists::listed(&case, NONE);
     let m = Monitor {
-        state: row[7],
-        count: lists::narrow(row[8]),
+        state: case[7],
+        count: lists::narrow(case[8]),
     };
     answers::state(m);
-    show::number(b" zone ", row[9]);
-    answers::step(m, m.step(l, lists::narrow(row[9])));
+    show::number(b" zone ", case[9]);
+    answers::step(m, m.step(l, lists::narrow(case[9])));
 }
 
 pub fn run(heading: &[u8], from: usize, to: usize)
@@ -82,7 +82,7 @@ pub fn run(heading: &[u8], from: usize, to: usize)
 {
     show::text(heading);
     for i in from..to {
-        one(row(i));
+        one(case_at(i));
     }
 }
 

@@ -61,7 +61,7 @@ const CASES: [Case; ALL] = [
     Case(0, 0, 4294967295),
 ];
 
-fn row(i: usize) -> Case
+fn case_at(i: usize) -> Case
     requires { ⌜ i < 36 ⌝ }
 {
     CASES[i]
@@ -79,6 +79,6 @@ pub fn run(heading: &[u8], from: usize, to: usize)
 {
     show::text(heading);
     for i in from..to {
-        one(row(i));
+        one(case_at(i));
     }
 }

@@ -65,18 +65,18 @@ const CASES: [[u64; 14]; ALL] = [
     [3, 9, 6, 3, 9, 12, 2, 0, HALF, 0, HALF, 5, 4, 3],
 ];
 
-fn row(i: usize) -> [u64; 14]
+fn case_at(i: usize) -> [u64; 14]
     requires { ⌜ i < 28 ⌝ }
 {
     CASES[i]
 }
 
-fn weights(row: [u64; 14]) -> [u32; ZONES] {
+fn weights(case: [u64; 14]) -> [u32; ZONES] {
     let mut w = [0u32; ZONES];
-    w[0] = lists::narrow(row[7]);
-    w[1] = lists::narrow(row[8]);
-    w[2] = lists::narrow(row[9]);
-    w[4] = lists::narrow(row[10]);
+    w[0] = lists::narrow(case[7]);
+    w[1] = lists::narrow(case[8]);
+    w[2] = lists::narrow(case[9]);
+    w[4] = lists::narrow(case[10]);
     w
 }
 
@@ -95,16 +95,22 @@ pub fn table_of(
     answers::answer(table::run_length_table(list, w, horizon, &mut pmf[0..p], &mut survival[0..s]));
 }
 
-fn one(row: [u64; 14]) {
-    let list = lists::listed(&row, Rule::new(0, 0, 0));
-    show::numbers(b" weights, horizon and places ", &row[7..14]);
-    table_of(list, weights(row), lists::narrow(row[11]), row[12], row[13]);
+fn one(case: [u64; 14]) {
+    let list = lists::listed(&case, Rule::new(0, 0, 0));
+    show::numbers(b" weights, horizon and places ", &case[7..14]);
+    table_of(
+        list,
+        weights(case),
+        lists::narrow(case[11]),
+        case[12],
+        case[13],
+    );
 }
 
 pub fn run(from: usize, to: usize)
     requires { ⌜ to ≤ 28 ⌝ }
 {
     for i in from..to {
-        one(row(i));
+        one(case_at(i));
     }
 }

@@ -5,7 +5,7 @@ use Rattle.published.proofs.source001.tables.Statement.{statement}
 use Rattle.published.proofs.source001.tables.Tie as tie
 use Rattle.published.proofs.source001.tables.Reads as reads
 use Rattle.published.proofs.source001.tables.Lts as lts
-use Rattle.published.proofs.source001.row.Reads as row-reads
+use Rattle.published.proofs.source001.entry.Reads as entry-reads
 
 abbrev Inv-loop : tie.InvT-loop
 Inv-loop all₀ k₀ all k = k ≤ 48
@@ -16,8 +16,8 @@ abbrev μ-loop : tie.MeasureT-loop
 loop-holds : tie.Need-loop-holds Inv-loop μ-loop
 loop-holds c = search needs
 
-row-requires : tie.Need-row-requires Inv-loop μ-loop
-row-requires c κs = search needs
+entry-requires : tie.Need-entry-requires Inv-loop μ-loop
+entry-requires c κs = search needs
 
 add-k : tie.Need-add-k Inv-loop μ-loop
 add-k c = search needs
@@ -33,4 +33,4 @@ returns c = search needs
 
 pub tables-spec : {M : Type 1} → statement M
 tables-spec =
-    tie.close (tie.spec Inv-loop μ-loop loop-holds row-requires add-k loop-less loop-again returns)
+    tie.close (tie.spec Inv-loop μ-loop loop-holds entry-requires add-k loop-less loop-again returns)

@@ -3,12 +3,12 @@ use mathlib.Core.Path.{_≡_, refl}
 use Prim.Native.Nat.{_-_, _≤_}
 use native.Mathlib.Omega.{arith}
 use lib.ListN.{length, getD}
-use Rattle.row.specs.ArrivalsLaws.{group-can, one-come}
-use Rattle.row.specs.OneRow.{Filled}
-use Rattle.row.specs.OneRowLaws.{round-can, fill-more, fill-done, stretch-first, stretch-in, stretch-next}
+use Rattle.next_row.specs.ArrivalsLaws.{group-can, one-come}
+use Rattle.next_row.specs.OneRow.{Filled}
+use Rattle.next_row.specs.OneRowLaws.{round-can, fill-more, fill-done, stretch-first, stretch-in, stretch-next}
 use borrow.Author.Needs.{needs}
-use Rattle.row.proofs.flow.stretch.Statement.{statement}
-use Rattle.row.proofs.flow.stretch.Tie as tie
+use Rattle.next_row.proofs.flow.stretch.Statement.{statement}
+use Rattle.next_row.proofs.flow.stretch.Tie as tie
 
 abbrev Inv-loop : tie.InvT-loop
 Inv-loop units sources firsts shares groups from stop next₀ moved₀ g₀ first₀ t₀ next moved g first t =

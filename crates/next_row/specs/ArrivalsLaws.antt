@@ -12,7 +12,7 @@ use Rattle.runlength.specs.Scale.{weightTotal, unitsPerOne}
 use Rattle.sources.specs.Sources.{gathered, weighed, come}
 use Rattle.sources.specs.SourcesLaws.{gathered-more, gathered-upto}
 use Rattle.sources.specs.GroupingLaws.{weighed-more}
-use Rattle.row.specs.Arrivals.{unitsAt, pairAt, CanRead, CanPair, CanGather, Gathered, CanWeigh, Weighed, Flows, Arriving, Arrived}
+use Rattle.next_row.specs.Arrivals.{unitsAt, pairAt, CanRead, CanPair, CanGather, Gathered, CanWeigh, Weighed, Flows, Arriving, Arrived}
 
 -- a source is a state
 pub read-in : {us src : List ℕ} {i s : ℕ} → CanRead us src i → s ≡ getD src i 0 → s < length us

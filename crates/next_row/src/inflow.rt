@@ -1,7 +1,7 @@
 // What comes into a state in one point: the units of a group's sources are added first, and their sum is multiplied once.
 ghost use mathlib.Core.Path.{_≡_};
 ghost use Prim.Native.Nat.{_+_};
-ghost use Rattle.row.specs.Arrivals.{unitsAt, pairAt, CanRead, CanPair, CanGather, Gathered, CanWeigh, Weighed, Flows, Arrived};
+ghost use Rattle.next_row.specs.Arrivals.{unitsAt, pairAt, CanRead, CanPair, CanGather, Gathered, CanWeigh, Weighed, Flows, Arrived};
 use runlength::WEIGHT_TOTAL;
 use sources::index;
 

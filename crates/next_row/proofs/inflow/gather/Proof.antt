@@ -3,12 +3,12 @@ use Prim.Native.Nat.{_+_, _-_, _≤_}
 use native.Mathlib.Omega.{arith}
 use native.Mathlib.Nat.{le-refl}
 use Rattle.runlength.specs.Scale.{unitsPerOne}
-use Rattle.row.specs.Arrivals.{Gathered}
-use Rattle.row.specs.ArrivalsLaws.{gather-read, gather-pair, gather-none, gather-one, gather-first}
-use Rattle.row.specs.ArrivalsLaws.{gather-two-room, gather-two, gather-room, gather-last, gather-done}
+use Rattle.next_row.specs.Arrivals.{Gathered}
+use Rattle.next_row.specs.ArrivalsLaws.{gather-read, gather-pair, gather-none, gather-one, gather-first}
+use Rattle.next_row.specs.ArrivalsLaws.{gather-two-room, gather-two, gather-room, gather-last, gather-done}
 use borrow.Author.Needs.{needs}
-use Rattle.row.proofs.inflow.gather.Statement.{statement}
-use Rattle.row.proofs.inflow.gather.Tie as tie
+use Rattle.next_row.proofs.inflow.gather.Statement.{statement}
+use Rattle.next_row.proofs.inflow.gather.Tie as tie
 
 abbrev Inv-loop : tie.InvT-loop
 Inv-loop units sources first last sum₀ e₀ sum e = (first ≤ e) × (e ≤ last) × Gathered units sources first e sum

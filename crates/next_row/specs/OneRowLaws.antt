@@ -10,9 +10,9 @@ use Rattle.runlength.specs.Sum.{sum, at}
 use Rattle.runlength.specs.SumLaws.{sum-zero, sum-more, sum-upto}
 use Rattle.runlength.specs.Scale.{weightTotal}
 use Rattle.sources.specs.Sources.{come}
-use Rattle.row.specs.Arrivals.{Flows, Arrived}
-use Rattle.row.specs.ArrivalsLaws.{flows-upto}
-use Rattle.row.specs.OneRow.{CanRound, Rounded, Filled, CanFill, CanRow, RowDone, PointDone}
+use Rattle.next_row.specs.Arrivals.{Flows, Arrived}
+use Rattle.next_row.specs.ArrivalsLaws.{flows-upto}
+use Rattle.next_row.specs.OneRow.{CanRound, Rounded, Filled, CanFill, CanRow, RowDone, PointDone}
 
 pub fill-start : (us src fs ws gs nx : List ℕ) → Filled us src fs ws gs 0 nx 0 0
 fill-start us src fs ws gs nx = record {

@@ -3,12 +3,12 @@ use mathlib.Core.Path.{_≡_, refl}
 use Prim.Native.Nat.{_+_, _-_, _≤_}
 use native.Mathlib.Omega.{arith}
 use lib.ListN.{length}
-use Rattle.row.specs.ArrivalsLaws.{flows-upto}
-use Rattle.row.specs.OneRow.{Filled}
-use Rattle.row.specs.OneRowLaws.{fill-start, round-can, fill-more, fill-done, stretch-can, row-fits, row-done}
+use Rattle.next_row.specs.ArrivalsLaws.{flows-upto}
+use Rattle.next_row.specs.OneRow.{Filled}
+use Rattle.next_row.specs.OneRowLaws.{fill-start, round-can, fill-more, fill-done, stretch-can, row-fits, row-done}
 use borrow.Author.Needs.{needs}
-use Rattle.row.proofs.flow.row.Statement.{statement}
-use Rattle.row.proofs.flow.row.Tie as tie
+use Rattle.next_row.proofs.flow.make_row.Statement.{statement}
+use Rattle.next_row.proofs.flow.make_row.Tie as tie
 
 abbrev Inv-loop : tie.InvT-loop
 Inv-loop sources firsts shares groups stops units total n next₀ t₀ moved₀ next t moved =
@@ -90,8 +90,8 @@ same-length c = search needs
 returns : tie.Need-returns Inv-loop μ-loop
 returns c = row-done (c .before .before .before .before .before .before .before .before .before .before .before .before .before .before .before .before .pre) (fill-done (c .before .before .loop .inv .0) (omega arith) (c .before .before .loop .inv .3))
 
-pub row-spec : {M : Type 1} → statement M
-row-spec =
+pub make-row-spec : {M : Type 1} → statement M
+make-row-spec =
     tie.close
     (tie.spec
     Inv-loop

@@ -3,11 +3,11 @@ use mathlib.Core.Path.{refl}
 use Prim.Native.Nat.{_+_, _-_, _≤_}
 use native.Mathlib.Omega.{arith}
 use lib.ListN.{getD}
-use Rattle.row.specs.Arrivals.{Arriving}
-use Rattle.row.specs.ArrivalsLaws.{group-can, arrive-start, arrive-more, arrive-high, arrive-low, arrive-done}
+use Rattle.next_row.specs.Arrivals.{Arriving}
+use Rattle.next_row.specs.ArrivalsLaws.{group-can, arrive-start, arrive-more, arrive-high, arrive-low, arrive-done}
 use borrow.Author.Needs.{needs}
-use Rattle.row.proofs.inflow.arrive.Statement.{statement}
-use Rattle.row.proofs.inflow.arrive.Tie as tie
+use Rattle.next_row.proofs.inflow.arrive.Statement.{statement}
+use Rattle.next_row.proofs.inflow.arrive.Tie as tie
 
 abbrev Inv-loop : tie.InvT-loop
 Inv-loop units sources firsts shares groups t end high₀ low₀ g₀ high low g =

@@ -8,7 +8,7 @@ use Rattle.runlength.specs.Sum.{sum, at}
 use Rattle.runlength.specs.Scale.{weightTotal, unitsPerOne}
 use Rattle.sources.specs.Sources.{come}
 use Rattle.sources.specs.Stops.{Stops}
-use Rattle.row.specs.Arrivals.{Flows}
+use Rattle.next_row.specs.Arrivals.{Flows}
 
 pub record CanRound (high low t left rest : ℕ) (nx : List ℕ) : Type 0 where
   pub room : t < length nx

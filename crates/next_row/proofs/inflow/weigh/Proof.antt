@@ -1,9 +1,9 @@
 -- `inflow::weigh` meets its contract.
 use native.Mathlib.Omega.{arith}
-use Rattle.row.specs.ArrivalsLaws.{weigh-high, weigh-low, weigh-done}
+use Rattle.next_row.specs.ArrivalsLaws.{weigh-high, weigh-low, weigh-done}
 use borrow.Author.Needs.{needs}
-use Rattle.row.proofs.inflow.weigh.Statement.{statement}
-use Rattle.row.proofs.inflow.weigh.Tie as tie
+use Rattle.next_row.proofs.inflow.weigh.Statement.{statement}
+use Rattle.next_row.proofs.inflow.weigh.Tie as tie
 
 gather-requires : tie.Need-gather-requires
 gather-requires c κs = search needs

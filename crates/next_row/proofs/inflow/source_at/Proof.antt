@@ -1,9 +1,9 @@
 -- `inflow::source_at` meets its contract: a source is a state.
 use native.Mathlib.Omega.{arith}
-use Rattle.row.specs.ArrivalsLaws.{read-in}
+use Rattle.next_row.specs.ArrivalsLaws.{read-in}
 use borrow.Author.Needs.{needs}
-use Rattle.row.proofs.inflow.source_at.Statement.{statement}
-use Rattle.row.proofs.inflow.source_at.Tie as tie
+use Rattle.next_row.proofs.inflow.source_at.Statement.{statement}
+use Rattle.next_row.proofs.inflow.source_at.Tie as tie
 
 mul-index : tie.Need-mul-index
 mul-index c = search needs

@@ -1,5 +1,5 @@
 // One row of the table, in one pass over the states: it moves the units and sums what is left.
-ghost use Rattle.row.specs.OneRow.{CanRound, Rounded, CanFill, Filled, CanRow, RowDone, CanPoint, PointDone};
+ghost use Rattle.next_row.specs.OneRow.{CanRound, Rounded, CanFill, Filled, CanRow, RowDone, CanPoint, PointDone};
 use crate::inflow::Inflow;
 use crate::inflow::arrive;
 use crate::inflow::weigh;
@@ -63,7 +63,7 @@ pub struct Point {
 
 // One row: the new units from the old, which sum to `total`; the units that signal, and the sum of those that do not. Nothing is lost before
 // the division, so what signals is what comes into no state.
-fn row(
+fn make_row(
     sources: &[u16],
     firsts: &[u16],
     shares: &[u32],
@@ -126,7 +126,7 @@ pub fn next_point(
             survival: 0,
         };
     }
-    row(
+    make_row(
         sources,
         firsts,
         shares,
