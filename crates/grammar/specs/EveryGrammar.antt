@@ -21,12 +21,15 @@ use Rattle.grammar.specs.GrammarLaws.{reading-once as reading-once-prove
 pub text-or-stops : (g : Grammar) → Clear g → (s : List ℕ) → ((c : Contents g) × TextIs g c s) ⊎ ((n : ℕ) × Stops g s n)
 text-or-stops = text-or-stops-proved
 
+-- Never both:
 pub not-both : {g : Grammar} → Clear g → {c : Contents g} {s : List ℕ} {n : ℕ} → TextIs g c s → Stops g s n → ⊥
 not-both k t s = not-both-proved k t s
 
+-- they stop being one at one line,
 pub line-once : {g : Grammar} → Clear g → {s : List ℕ} {m n : ℕ} → Stops g s m → Stops g s n → m ≡ n
 line-once = line-once-proved
 
+-- and are the text of one contents.
 pub contents-once : {g : Grammar} → Clear g → {c d : Contents g} {s : List ℕ} → TextIs g c s → TextIs g d s → c ≡ d
 contents-once k t u = contents-once-proved k t u
 

@@ -43,6 +43,7 @@ monitor-reading = monitor-reading-proved
 
 -- ---- the lines of a chart, rules and points are read back
 
+-- A text that is these lines, with points of the bench's nodes, is read as its chart, its rules and its points.
 pub monitor-read : {s : List ℕ} {c : ℤ} {d : ℕ} {rs : List Rule} {ps : List NodeReading} → MonitorTextIs s c d rs ps → OnBench ps
     → (at : ℕ) × (monitorText s ≡ readMonitor c d rs at) × (monitorPoints s ≡ ps)
 monitor-read = monitor-read-proved
@@ -73,6 +74,7 @@ pub monitor-stopped : {s : List ℕ} {place : ℕ} → length s ≤ maxText → 
 unfolding monitorText monitorOf
 monitor-stopped {s} l st = rw (is-reading monitorGrammar clear-monitor s (wrong l st))
 
+-- Longer bytes than a text may have are refused by 17.
 pub monitor-too-long : (s : List ℕ) → maxText < length s → monitorText s ≡ refusedMonitor tooLong
 unfolding monitorText monitorOf
 monitor-too-long s l = rw (is-reading monitorGrammar clear-monitor s (beyond l))

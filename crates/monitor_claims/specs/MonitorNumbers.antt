@@ -15,6 +15,7 @@ use Rattle.monitor_claims.specs.MonitorNumbersLaws.{monitor-refusals as 
 pub monitor-refusals : (s : List ℕ) (n p : ℕ) → printedBytes (monitorPrinted s) ≡ refusedLine n p → OneOf monitorNumbers n
 monitor-refusals = monitor-refusals-proved
 
+-- A number that library calls alone give is never printed.
 pub monitor-never : (s : List ℕ) (n p : ℕ) → OneOf libraryNumbers n → printedBytes (monitorPrinted s) ≡ refusedLine n p → ⊥
 unfolding apart elem
 monitor-never s n p o e = apart-never libraryNumbers refl (monitor-refusals s n p e) o

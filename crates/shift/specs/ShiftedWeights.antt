@@ -23,6 +23,7 @@ use Rattle.shift.specs.ShiftLaws.{shift-mirrored as shift-mirrored-prove
 pub area-odd : (z : ℤ) → normalArea (negℤ z) ≡ negℤ (normalArea z)
 area-odd = area-odd-proved
 
+-- A shift is accepted exactly within its bounds, with the weights of that shift, and else refused by 18.
 pub shift-accepted : (s : ℤ) → natAbs s ≤ maxShift → shiftOf s ≡ Accepted (weightsOf s)
 unfolding shiftOf
 shift-accepted s h = rw (le-leb (natAbs s) maxShift h)
@@ -35,6 +36,7 @@ shift-refused s h = rw (lt-leb (natAbs s) maxShift h)
 pub weights-shifted : (s : ℤ) (w : ZoneWeights) → shiftOf s ≡ Accepted w → Shifted s w
 weights-shifted = weights-shifted-proved
 
+-- The weights of -s are those of s mirrored, and -s is refused exactly where s is.
 pub weights-mirrored : (s : ℤ) → weightsOf (negℤ s) ≡ mirrored (weightsOf s)
 weights-mirrored = weights-mirrored-proved
 

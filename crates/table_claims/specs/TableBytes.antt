@@ -41,6 +41,7 @@ pub table-stopped : {s : List ℕ} {place : ℕ} → length s ≤ maxText → St
 unfolding tableText tableGiven
 table-stopped {s} {place} l st = rw (is-reading tableGrammar clear-table s (wrong l st))
 
+-- Longer bytes than a text may have are refused by 17.
 pub table-too-long : (s : List ℕ) → maxText < length s → tableText s ≡ refusedTable tooLong
 unfolding tableText tableGiven
 table-too-long s l = rw (is-reading tableGrammar clear-table s (too-long l))

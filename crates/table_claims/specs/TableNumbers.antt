@@ -15,6 +15,7 @@ use Rattle.table_claims.specs.TableNumbersLaws.{table-refusals as table-
 pub table-refusals : (s : List ℕ) (n p : ℕ) → printedBytes (tablePrinted s) ≡ refusedLine n p → OneOf tableNumbers n
 table-refusals = table-refusals-proved
 
+-- A number that library calls alone give is never printed.
 pub table-never : (s : List ℕ) (n p : ℕ) → OneOf libraryNumbers n → printedBytes (tablePrinted s) ≡ refusedLine n p → ⊥
 unfolding apart elem
 table-never s n p o e = apart-never libraryNumbers refl (table-refusals s n p e) o

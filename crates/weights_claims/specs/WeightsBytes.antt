@@ -16,6 +16,7 @@ use Rattle.weights_claims.specs.WeightsTexts.{ShiftTextIs}
 use Rattle.weights_claims.specs.WeightsBytesLaws.{text-short}
 use Rattle.weights_claims.specs.WeightsBytesLaws.{shift-exactly as shift-exactly-proved}
 
+-- The line of a shift is read as that shift.
 pub shift-read : {s : List ℕ} {x : ℤ} → ShiftTextIs s x → shiftText s ≡ readShift x
 unfolding shiftText shiftBy
 shift-read {s} {x} t = rw (is-reading shiftGrammar clear-shift s (right (text-short t) (t .text)))
@@ -30,10 +31,12 @@ shift-exactly = shift-exactly-proved
 
 -- ---- and a text that stops being one is refused by 16, there
 
+-- Bytes that stop being a text at a line are refused by 16, with that line as the place.
 pub shift-stopped : {s : List ℕ} {place : ℕ} → length s ≤ maxText → Stops shiftGrammar s place → shiftText s ≡ refusedShift (badLine place)
 unfolding shiftText shiftBy
 shift-stopped {s} {place} l st = rw (is-reading shiftGrammar clear-shift s (wrong l st))
 
+-- Longer bytes than a text may have are refused by 17.
 pub shift-too-long : (s : List ℕ) → maxText < length s → shiftText s ≡ refusedShift tooLong
 unfolding shiftText shiftBy
 shift-too-long s l = rw (is-reading shiftGrammar clear-shift s (too-long l))

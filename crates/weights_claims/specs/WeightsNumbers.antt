@@ -15,6 +15,7 @@ use Rattle.weights_claims.specs.WeightsNumbersLaws.{weights-refusals as 
 pub weights-refusals : (s : List ℕ) (n p : ℕ) → printedBytes (weightsPrinted s) ≡ refusedLine n p → OneOf weightsNumbers n
 weights-refusals = weights-refusals-proved
 
+-- A number that library calls alone give is never printed.
 pub weights-never : (s : List ℕ) (n p : ℕ) → OneOf libraryNumbers n → printedBytes (weightsPrinted s) ≡ refusedLine n p → ⊥
 unfolding apart elem
 weights-never s n p o e = apart-never libraryNumbers refl (weights-refusals s n p e) o
