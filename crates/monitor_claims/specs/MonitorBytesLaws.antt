@@ -28,7 +28,7 @@ use Rattle.monitor_text.specs.declared.monitors.MonitorText.{MonitorText}
 use Rattle.monitor_text.specs.Readings.{NodeReading, OnBench, benchPoints}
 use Rattle.monitor_text.specs.ReadingsLaws.{all-bench, first-off, off-place}
 use Rattle.monitor_text.specs.MonitorGrammar.{pointLine, monitorGrammar, pointValues, pointsSaid, monitorContents}
-use Rattle.monitor_text.specs.PointTurnLaws.{said-values, values-said}
+use Rattle.monitor_text.specs.PointLineLaws.{said-values, values-said}
 use Rattle.monitor_text.specs.MonitorText.{refusedMonitor, readMonitor, pointsFrom, benchOr, monitorOf, monitorText, monitorPoints, pointsAt}
 use Rattle.monitor_text.specs.MonitorTextLaws.{clear-monitor}
 use Rattle.monitor_text.specs.AcceptedLaws.{bench-read, points-again}

@@ -27,7 +27,7 @@ use Rattle.rule_lines.specs.Rules.{ruleListOf}
 use Rattle.monitor_text.specs.Readings.{NodeReading, OnBench, readingsOf}
 use Rattle.rule_lines.specs.RulesLaws.{active-rules, rules-few}
 use Rattle.monitor_text.specs.ReadingsLaws.{readings-few}
-use Rattle.monitor_text.specs.PointTurnLaws.{points-fit}
+use Rattle.monitor_text.specs.PointLineLaws.{points-fit}
 use Rattle.monitor_text.specs.MonitorText.{refusedMonitor, readMonitor, monitorText, monitorPoints}
 use Rattle.write.specs.Printed.{printedBy, printedBytes}
 use Rattle.monitor_report.specs.Points.{benchBytes}

@@ -8,7 +8,7 @@ use Rattle.rules.specs.declared.Rule.{Rule}
 use Rattle.write.specs.Wrote.{Wrote}
 use Rattle.monitor_text.specs.Readings.{NodeReading, nodeCount, OnBench, readingsOf}
 use Rattle.monitor_text.specs.MonitorText.{pointsAt}
-use Rattle.monitor_text.specs.PointTurnLaws.{pointsBy}
+use Rattle.monitor_text.specs.PointLineLaws.{pointsBy}
 use Rattle.monitor_lines.specs.MonitorLines.{pointRoom}
 use Rattle.monitor_report.specs.declared.nodes.Node.{Node}
 use Rattle.monitor_report.specs.Points.{minPoint, benchAnswers, answerLines}

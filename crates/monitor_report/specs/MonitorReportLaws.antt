@@ -29,7 +29,7 @@ use Rattle.monitor_text.specs.declared.monitors.MonitorText.{MonitorText}
 use Rattle.monitor_text.specs.Readings.{NodeReading, nodeCount, OnBench, readingsOf}
 use Rattle.monitor_text.specs.ReadingsLaws.{readings-few}
 use Rattle.monitor_text.specs.MonitorText.{pointsAt, monitorText}
-use Rattle.monitor_text.specs.PointTurnLaws.{points-fit}
+use Rattle.monitor_text.specs.PointLineLaws.{points-fit}
 use Rattle.monitor_text.specs.AcceptedLaws.{ReadMonitor, read-monitor}
 use Rattle.write.specs.declared.ReportAnswer.the-variants.{Written, Refused}
 use Rattle.write.specs.Printed.{report, reportOf}

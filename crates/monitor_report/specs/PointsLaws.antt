@@ -24,7 +24,7 @@ use Rattle.write.specs.WroteLaws.{wrote-nothing, wrote-length, then}
 use Rattle.monitor_text.specs.Readings.{NodeReading, nodeReading, nodeCount, OnBench, readingsOf}
 use Rattle.monitor_text.specs.MonitorGrammar.{pointLine}
 use Rattle.monitor_text.specs.MonitorText.{pointsAt}
-use Rattle.monitor_text.specs.PointTurnLaws.{pointsBy, one-point, no-points, seen-ahead}
+use Rattle.monitor_text.specs.PointLineLaws.{pointsBy, one-point, no-points, seen-ahead}
 use Rattle.monitor_text.specs.ReadingsLaws.{readings-append, reading-own, reading-other, readings-few}
 use Rattle.monitor_lines.specs.MonitorLines.{pointBytes, pointRoom}
 use Rattle.monitor_report.specs.declared.nodes.Node.{Node}

@@ -3,6 +3,6 @@ pub mod Readings
 pub mod ReadingsLaws
 pub mod MonitorGrammar
 pub mod MonitorText
-pub mod PointTurnLaws
+pub mod PointLineLaws
 pub mod MonitorTextLaws
 pub mod AcceptedLaws

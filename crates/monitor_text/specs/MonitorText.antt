@@ -14,25 +14,12 @@ use Rattle.grammar.specs.TextReading.{manyAt, afterMany}
 use Rattle.grammar.specs.TextReading.{Reading, read, stopped, long, readText}
 use Rattle.rule_lines.specs.Rules.{ruleLine, rulesSaid, ruleListOf}
 use Rattle.monitor_text.specs.declared.monitors.MonitorText.{MonitorText}
-use Rattle.monitor_text.specs.declared.point_lines.PointsRead.{PointsRead}
-use Rattle.monitor_text.specs.Readings.{NodeReading, nodeCount, benchPoints}
+use Rattle.monitor_text.specs.Readings.{NodeReading, benchPoints}
 use Rattle.monitor_text.specs.MonitorGrammar.{chartLine, pointLine, monitorGrammar, pointsSaid}
 
 -- the points of the point lines from an offset on
 abbrev pub pointsAt : List ℕ → ℕ → List NodeReading
 pointsAt s at = pointsSaid (manyAt (line pointLine) (length s) s at)
-
--- of `count` points `good` come before the first whose node is none of the bench's: how many do with one of this node more
-abbrev pub benchMore : ℕ → ℕ → ℕ → ℕ
-benchMore count good node = cond (ltb good count) good (cond (ltb node nodeCount) (count + 1) count)
-
-unfoldable pub pointsRead : List ℕ → ℕ → PointsRead
-pointsRead s at =
-    record {
-      count = length (manyAt (line pointLine) (length s) s at);
-      good = benchPoints (pointsAt s at);
-      next = afterMany (line pointLine) (length s) s at;
-    }
 
 -- a refusal comes with zeros and no rules
 unfoldable pub refusedMonitor : Refusal → MonitorText

@@ -22,17 +22,18 @@ use Rattle.grammar.specs.TextReading.{Seen, found, other, seen, manyAt, afterMa
 use Rattle.grammar.specs.TextReading.{Reading, read, stopped, long, also, readAt, readText}
 use Rattle.grammar.specs.BlockLaws.{read-line, read-other, read-many, read-end, read-more, other-word, word-inside, none-of-many, many-short}
 use Rattle.text.specs.declared.lines.LineRead.{LineRead}
+use Rattle.text.specs.declared.runs.Run.{Run}
 use Rattle.text.specs.LineRead.{slotsOf, codes, lineReadAt}
 use Rattle.text.specs.LineReadLaws.{SeenLine, line-seen, line-none}
+use Rattle.text.specs.Run.{runAt}
 use Rattle.rule_lines.specs.declared.rule_lines.RulesRead.{RulesRead}
 use Rattle.rule_lines.specs.Rules.{ruleLine, rulesSaid, ruleListOf, rulesRead}
 use Rattle.rule_lines.specs.RuleTurnLaws.{read-list, read-next, read-line-number, read-refused}
 use Rattle.monitor_text.specs.declared.monitors.MonitorText.{MonitorText}
-use Rattle.monitor_text.specs.declared.point_lines.PointsRead.{PointsRead}
-use Rattle.monitor_text.specs.Readings.{benchPoints}
-use Rattle.monitor_text.specs.MonitorGrammar.{chartWord, chartLine, pointLine, monitorGrammar, pointsSaid}
-use Rattle.monitor_text.specs.MonitorText.{pointsAt, pointsRead, refusedMonitor, readMonitor, pointsFrom, benchOr, monitorOf, monitorText}
-use Rattle.monitor_text.specs.PointTurnLaws.{said-length}
+use Rattle.monitor_text.specs.Readings.{nodeCount, benchPoints}
+use Rattle.monitor_text.specs.MonitorGrammar.{chartWord, chartLine, pointWord, pointLine, monitorGrammar, pointsSaid}
+use Rattle.monitor_text.specs.MonitorText.{refusedMonitor, readMonitor, pointsFrom, benchOr, monitorOf, monitorText}
+use Rattle.monitor_text.specs.PointLineLaws.{said-length, bench-below}
 
 -- a line's keyword tells its place and its fields
 pub clear-monitor : Clear monitorGrammar
@@ -118,18 +119,18 @@ module _ (s : List ℕ) (short : length s ≤ maxText) {f : LineRead} (fe : f �
         let z : r .line + length points ≡ r .line = omega (arith, ap length (o .0)) in
         ap refusedMonitor (b .0 ∙ ap badLine (sym z)) ∙ more (omega (arith, o .1, word-inside s (r .next) 114 (b .1 .0) _ (b .1 .1)))
 
-    module _ {g : PointsRead} (ge : g ≡ pointsRead s (r .next)) where
+    module _ {g : Run} (ge : g ≡ runAt pointWord (number ∷ signed ∷ []) 0 nodeCount s (r .next)) where
       count-is : g .count ≡ length points
-      unfolding pointsRead points
-      count-is = ap (λ (y : PointsRead). y .count) ge
+      unfolding runAt points
+      count-is = ap (λ (y : Run). y .count) ge
 
       end-is : g .next ≡ end
-      unfolding pointsRead end
-      end-is = ap (λ (y : PointsRead). y .next) ge
+      unfolding runAt end
+      end-is = ap (λ (y : Run). y .next) ge
 
-      good-is : g .good ≡ benchPoints (pointsSaid points)
-      unfolding pointsRead points
-      good-is = ap (λ (y : PointsRead). y .good) ge
+      good-is : g .below ≡ benchPoints (pointsSaid points)
+      unfolding runAt points
+      good-is = ap (λ (y : Run). y .below) ge ∙ bench-below (manyAt (line pointLine) (length s) s (r .next))
 
       pub points-few : g .count ≤ length s
       unfolding points least
@@ -146,11 +147,11 @@ module _ (s : List ℕ) (short : length s ≤ maxText) {f : LineRead} (fe : f �
       unfolding vss
       line-is = read-line-number s at 2 re
 
-      pub off-bench : length s ≤ g .next → g .good < g .count → refusedMonitor (badNode (r .line + g .good)) ≡ monitorText s
+      pub off-bench : length s ≤ g .next → g .below < g .count → refusedMonitor (badNode (r .line + g .below)) ≡ monitorText s
       unfolding monitorOf benchOr
       off-bench h l =
           let a : benchPoints (pointsSaid points) < length (pointsSaid points) = omega (arith, good-is, count-is, said-length points) in
-          let p : r .line + g .good ≡ 2 + length vss + benchPoints (pointsSaid points) = omega (arith, line-is, good-is) in
+          let p : r .line + g .below ≡ 2 + length vss + benchPoints (pointsSaid points) = omega (arith, line-is, good-is) in
           ap (λ (n : ℕ). refusedMonitor (badNode n)) p ∙ off a ∙ of-reading s (read-all h)
         where
           off : benchPoints (pointsSaid points) < length (pointsSaid points)
@@ -173,7 +174,7 @@ module _ (s : List ℕ) (short : length s ≤ maxText) {f : LineRead} (fe : f �
       unfolding vss
       list-is = read-list s at 2 re
 
-      pub whole : {c : ℤ} → c ≡ lowered (getD (f .values) 0 0) → length s ≤ g .next → g .count ≤ g .good
+      pub whole : {c : ℤ} → c ≡ lowered (getD (f .values) 0 0) → length s ≤ g .next → g .count ≤ g .below
           → givenMonitor c (getD (f .values) 1 0) (r .list) (r .next) ≡ monitorText s
       unfolding monitorOf benchOr readMonitor
       whole {c} e h l =

@@ -10,15 +10,6 @@ use lib.IntN.{ℤ}
 use borrow.Author.Tests.{lt-ltb, le-ltb, ltb-true, ltb-false, eq-eqb, ne-eqb}
 use Rattle.monitor_text.specs.Readings.{NodeReading, nodeReading, nodeCount, OnBench, benchPoints, readingsOf}
 
-pub bench-most : (ps : List NodeReading) → benchPoints ps ≤ length ps
-unfolding benchPoints
-bench-most [] = omega arith
-bench-most (p ∷ ps) = go (ltb (p .node) nodeCount) (bench-most ps)
-  where
-    go : (b : Bool) → benchPoints ps ≤ length ps → cond b (suc (benchPoints ps)) 0 ≤ suc (length ps)
-    go true h = omega arith
-    go false h = omega arith
-
 -- where no point is before a bad node but all are, every node is one of the bench's
 pub all-bench : (ps : List NodeReading) → length ps ≤ benchPoints ps → OnBench ps
 unfolding benchPoints OnBench

@@ -1,8 +1,11 @@
 // The monitor program's text: a chart line, rule lines, and point lines to the end.
 mod monitors;
-mod point_lines;
 
 pub use monitors::MonitorText;
 pub use monitors::monitor_text;
-pub use point_lines::MIN_POINT;
-pub use point_lines::NODES;
+
+// The number of nodes of a bench: 0 to 15.
+pub const NODES: u32 = 16;
+
+// The fewest bytes of a point line: `point`, two commas, each with a digit, LF.
+pub const MIN_POINT: usize = 5 + 2 * 2 + 1;

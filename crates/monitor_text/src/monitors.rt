@@ -1,5 +1,5 @@
 // The monitor program's text read whole.
-use crate::point_lines::read_points;
+use crate::NODES;
 use decimal::Found;
 use decimal::signed_value;
 use rule_lines::no_rules;
@@ -8,6 +8,7 @@ use rules::Refusal;
 use rules::RuleList;
 use text::MAX_TEXT;
 use text::line_at;
+use text::run_at;
 ghost use mathlib.Core.Path.{_≡_};
 ghost use Rattle.rules.specs.Refusal.{refusal};
 ghost use Rattle.monitor_text.specs.MonitorText.{refusedMonitor, monitorText};
@@ -53,13 +54,13 @@ pub fn monitor_text(text: &[u8]) -> MonitorText
     }
     let points = read.next;
     let line = read.line;
-    let found = read_points(text, points);
-    let count = found.count;
-    let end = found.next;
+    let run = run_at(text, points, b"point", b"ns", 0, NODES);
+    let count = run.count;
+    let end = run.next;
     if end < text.len() {
         return refused_monitor(Refusal::LINE, line + count);
     }
-    let good = found.good;
+    let good = run.below;
     if good < count {
         return refused_monitor(Refusal::NODE, line + good);
     }

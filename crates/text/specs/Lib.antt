@@ -1,3 +1,5 @@
 -- What the line parser gives: definitions and laws.
 pub mod LineRead
 pub mod LineReadLaws
+pub mod Run
+pub mod RunLaws

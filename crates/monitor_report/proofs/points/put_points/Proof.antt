@@ -9,7 +9,7 @@ use borrow.Author.Needs.{needs}
 use mir.Facts.{toZ-ofZ}
 use Rattle.rules.specs.Check.{activeRules}
 use Rattle.monitor_text.specs.Readings.{nodeCount}
-use Rattle.monitor_text.specs.PointTurnLaws.{point-seen, no-point-seen, seen-ahead}
+use Rattle.monitor_text.specs.PointLineLaws.{point-seen, no-point-seen, seen-ahead}
 use Rattle.monitor_report.specs.BenchWritten.{BenchWritten}
 use Rattle.monitor.specs.ZonesLaws.{zone-given, zone-below}
 use Rattle.monitor_report.specs.PointsLaws.{slots-fresh, written-start, done-few, points-left, node-below, node-ready, written-more, written-done}

@@ -51,18 +51,24 @@ returns-3 c =
     let i = l .before .before .before in
     c .refused-monitor3 .ensures ∙ bad-rule _ (omega (arith, i .if1 .left)) (l .line-at .ensures) (k .behind .given .1) (r .read-rules .ensures) (c .before .if2 .taken)
 
-read-points-requires : tie.Need-read-points-requires
-read-points-requires c κs = search needs
+slice-aggregate-run-at : tie.Need-slice-aggregate-run-at
+slice-aggregate-run-at c = search needs
+
+slice-aggregate-run-at-2 : tie.Need-slice-aggregate-run-at-2
+slice-aggregate-run-at-2 c = search needs
+
+run-at-requires : tie.Need-run-at-requires
+run-at-requires c κs = search needs
 
 add-refused-monitor : tie.Need-add-refused-monitor
 add-refused-monitor c =
     let g = c .before in
-    let r = g .before .before .before .before in
+    let r = g .before .before .before .before .before .before in
     let k = r .before .before in
     let l = k .before .before in
     let i = l .before .before .before in
     let a = read-few _ _ _ (r .read-rules .ensures) in
-    let p = points-few _ (omega (arith, i .if1 .left)) (l .line-at .ensures) (k .behind .given .1) (r .read-rules .ensures) (g .read-points .ensures) in
+    let p = points-few _ (omega (arith, i .if1 .left)) (l .line-at .ensures) (k .behind .given .1) (r .read-rules .ensures) (g .run-at .ensures) in
     omega (arith, a, p)
 
 refused-monitor-requires-4 : tie.Need-refused-monitor-requires-4
@@ -71,21 +77,21 @@ refused-monitor-requires-4 c κs = search needs
 returns-4 : tie.Need-returns-4
 returns-4 c =
     let g = c .before .before in
-    let r = g .before .before .before .before in
+    let r = g .before .before .before .before .before .before in
     let k = r .before .before in
     let l = k .before .before in
     let i = l .before .before .before in
-    c .refused-monitor4 .ensures ∙ goes-on _ (omega (arith, i .if1 .left)) (l .line-at .ensures) (k .behind .given .1) (r .read-rules .ensures) (g .read-points .ensures) (c .before .if3 .taken)
+    c .refused-monitor4 .ensures ∙ goes-on _ (omega (arith, i .if1 .left)) (l .line-at .ensures) (k .behind .given .1) (r .read-rules .ensures) (g .run-at .ensures) (c .before .if3 .taken)
 
 add-refused-monitor-2 : tie.Need-add-refused-monitor-2
 add-refused-monitor-2 c =
     let g = c .before .before in
-    let r = g .before .before .before .before in
+    let r = g .before .before .before .before .before .before in
     let k = r .before .before in
     let l = k .before .before in
     let i = l .before .before .before in
     let a = read-few _ _ _ (r .read-rules .ensures) in
-    let p = points-few _ (omega (arith, i .if1 .left)) (l .line-at .ensures) (k .behind .given .1) (r .read-rules .ensures) (g .read-points .ensures) in
+    let p = points-few _ (omega (arith, i .if1 .left)) (l .line-at .ensures) (k .behind .given .1) (r .read-rules .ensures) (g .run-at .ensures) in
     omega (arith, a, p, c .if4 .taken)
 
 refused-monitor-requires-5 : tie.Need-refused-monitor-requires-5
@@ -94,11 +100,11 @@ refused-monitor-requires-5 c κs = search needs
 returns-5 : tie.Need-returns-5
 returns-5 c =
     let g = c .before .before .before in
-    let r = g .before .before .before .before in
+    let r = g .before .before .before .before .before .before in
     let k = r .before .before in
     let l = k .before .before in
     let i = l .before .before .before in
-    c .refused-monitor5 .ensures ∙ off-bench _ (omega (arith, i .if1 .left)) (l .line-at .ensures) (k .behind .given .1) (r .read-rules .ensures) (g .read-points .ensures) (c .before .before .if3 .left) (c .before .if4 .taken)
+    c .refused-monitor5 .ensures ∙ off-bench _ (omega (arith, i .if1 .left)) (l .line-at .ensures) (k .behind .given .1) (r .read-rules .ensures) (g .run-at .ensures) (c .before .before .if3 .left) (c .before .if4 .taken)
 
 array-read-signed-value : tie.Need-array-read-signed-value
 array-read-signed-value c = search needs
@@ -106,17 +112,17 @@ array-read-signed-value c = search needs
 signed-value-requires : tie.Need-signed-value-requires
 signed-value-requires c κs = search needs
 
-array-read-t32 : tie.Need-array-read-t32
-array-read-t32 c = search needs
+array-read-t38 : tie.Need-array-read-t38
+array-read-t38 c = search needs
 
 returns-6 : tie.Need-returns-6
 returns-6 c =
     let g = c .before .before .before .before .before in
-    let r = g .before .before .before .before in
+    let r = g .before .before .before .before .before .before in
     let k = r .before .before in
     let l = k .before .before in
     let i = l .before .before .before in
-    whole _ (omega (arith, i .if1 .left)) (l .line-at .ensures) (k .behind .given .1) (r .read-rules .ensures) (g .read-points .ensures) (toZ-ofZ (search needs) ∙ c .signed-value .ensures) (c .before .before .before .before .if3 .left) (c .before .before .before .if4 .left)
+    whole _ (omega (arith, i .if1 .left)) (l .line-at .ensures) (k .behind .given .1) (r .read-rules .ensures) (g .run-at .ensures) (toZ-ofZ (search needs) ∙ c .signed-value .ensures) (c .before .before .before .before .if3 .left) (c .before .before .before .if4 .left)
 
 pub monitor-text-spec : {M : Type 1} → statement M
 monitor-text-spec =
@@ -134,7 +140,9 @@ monitor-text-spec =
     read-rules-requires
     refused-monitor-requires-3
     returns-3
-    read-points-requires
+    slice-aggregate-run-at
+    slice-aggregate-run-at-2
+    run-at-requires
     add-refused-monitor
     refused-monitor-requires-4
     returns-4
@@ -143,5 +151,5 @@ monitor-text-spec =
     returns-5
     array-read-signed-value
     signed-value-requires
-    array-read-t32
+    array-read-t38
     returns-6)
