@@ -14,17 +14,24 @@ use rules::ZONES;
 use show::lists::narrow;
 ghost use Prim.Native.Nat.{_<_};
 
-// For examples 15-1 and 15-2, each in control and shifted: the probability of a signal and the mean run length, both in
-// units of the last decimal place and with the number of places; and the mean that the horizon goes by.
-const PUBLISHED: [[u64; 5]; 4] = [
+const CHARTS: usize = 5;
+
+// Where the four Western Electric rules stand among the charts; the others have the one rule that a point is in S.
+const FOUR_RULES: usize = 2;
+
+// Example 15-1 in control and shifted, the Western Electric rules in control, example 15-2 in control and shifted: the probability of a
+// signal and the mean run length, both in units of the last decimal place and with the number of places; and the mean that the horizon goes
+// by. Of the four rules no probability is printed.
+const PUBLISHED: [[u64; 5]; CHARTS] = [
     [27, 4, 370, 0, 370],
     [2236, 4, 45, 1, 5],
+    [0, 0, 92, 0, 92],
     [83, 5, 1205, 0, 1205],
     [179, 4, 56, 0, 56],
 ];
 
 fn published(i: usize) -> [u64; 5]
-    requires { ⌜ i < 4 ⌝ }
+    requires { ⌜ i < 5 ⌝ }
 {
     PUBLISHED[i]
 }
@@ -36,19 +43,27 @@ fn two_zones(signal: u32, rest: u32) -> [u32; ZONES] {
 
 fn weights(i: usize) -> [u32; ZONES] {
     match i {
-        0 => source002::in_control(),
         1 => two_zones(240118063, 833623761),
-        2 => two_zones(891221, 1072850603),
-        _ => two_zones(19271090, 1054470734),
+        3 => two_zones(891221, 1072850603),
+        4 => two_zones(19271090, 1054470734),
+        _ => source002::in_control(),
     }
 }
 
+fn rules_of(i: usize) -> RuleList {
+    if i == FOUR_RULES {
+        return RuleList::western_electric();
+    }
+    figures::outside_limits()
+}
+
 fn name(i: usize) {
-    show::number(b"004 example 15-", (i / 2 + 1) as u64);
-    if i % 2 == 0 {
-        show::text(b" in control");
-    } else {
-        show::text(b" shifted");
+    match i {
+        0 => show::text(b"004 example 15-1 in control"),
+        1 => show::text(b"004 example 15-1 shifted"),
+        2 => show::text(b"004 Western Electric in control"),
+        3 => show::text(b"004 example 15-2 in control"),
+        _ => show::text(b"004 example 15-2 shifted"),
     }
 }
 
@@ -63,40 +78,26 @@ fn line(tally: Tally, i: usize, kind: &[u8], ours: Exact, units: u64, places: u6
     )
 }
 
-// A chart with the one rule that a point is in S.
-fn shewhart(tally: Tally, i: usize) -> Tally
-    requires { ⌜ i < 4 ⌝ }
+fn probability(tally: Tally, i: usize, ours: Exact, units: u64, places: u64) -> Tally {
+    if i == FOUR_RULES {
+        return tally;
+    }
+    line(tally, i, b": probability ", ours, units, places)
+}
+
+fn chart(tally: Tally, i: usize) -> Tally
+    requires { ⌜ i < 5 ⌝ }
 {
     let p = published(i);
-    let f = figures::of_chart(
-        figures::outside_limits(),
-        weights(i),
-        figures::horizon_for(p[4]),
-    );
-    let t1 = line(tally, i, b": probability ", f.first, p[0], p[1]);
+    let f = figures::of_chart(rules_of(i), weights(i), figures::horizon_for(p[4]));
+    let t1 = probability(tally, i, f.first, p[0], p[1]);
     line(t1, i, b": arl ", f.mean, p[2], p[3])
 }
 
-fn western_electric(tally: Tally) -> Tally {
-    let f = figures::of_chart(
-        RuleList::western_electric(),
-        source002::in_control(),
-        figures::horizon_for(92),
-    );
-    let mean = f.mean;
-    compare::figure(
-        tally,
-        b"004 Western Electric in control: arl ",
-        mean.in_places(0),
-        92,
-        0,
-    )
-}
-
 pub fn examples(tally: Tally) -> Tally {
-    let t1 = shewhart(tally, 0);
-    let t2 = shewhart(t1, 1);
-    let t3 = western_electric(t2);
-    let t4 = shewhart(t3, 2);
-    shewhart(t4, 3)
+    let mut all = tally;
+    for i in 0..CHARTS {
+        all = chart(all, i);
+    }
+    all
 }
