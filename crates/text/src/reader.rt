@@ -34,7 +34,13 @@ pub fn line_at(text: &[u8], at: usize, word: &[u8], letters: &[u8]) -> LineRead
 
 // The run of lines that the reader stands at, of the word and with a field for each letter; the bound is of the field of that index. For the
 // crates of this repository, whose texts are of a size that is read and whose lines have that field: hence the `requires`.
-pub fn run<'a, 'b, 'c>(r: Reader<'a>, word: &'b [u8], letters: &'c [u8], field: usize, bound: u32) -> Run
+pub fn run<'a, 'b, 'c>(
+    r: Reader<'a>,
+    word: &'b [u8],
+    letters: &'c [u8],
+    field: usize,
+    bound: u32,
+) -> Run
     requires { ⌜ (length (now (r .text)) ≤ maxText) × (length (now letters) ≤ mostFields) × (field < mostFields) ⌝ }
     ensures { λ l. ⌜ l ≡ runAt (now (word .entry)) (fieldsOf (now (letters .entry))) field bound (now (r .entry .text)) (r .entry .at) ⌝ }
 {

@@ -29,7 +29,14 @@ fn one_more(count: u32, below: u32, value: u32, bound: u32) -> u32
 
 // The lines of the word from `at` on, with a field for each letter: `n` for a number, `s` for a signed one. The bound is of the field of that
 // index.
-pub(crate) fn parse_run(text: &[u8], at: usize, word: &[u8], letters: &[u8], field: usize, bound: u32) -> Run
+pub(crate) fn parse_run(
+    text: &[u8],
+    at: usize,
+    word: &[u8],
+    letters: &[u8],
+    field: usize,
+    bound: u32,
+) -> Run
     requires { ⌜ (length (now text) ≤ maxText) × (length (now letters) ≤ mostFields) × (field < mostFields) ⌝ }
     ensures { λ r. ⌜ r ≡ runAt (now (word .entry)) (fieldsOf (now (letters .entry))) field bound (now (text .entry)) at ⌝ }
 {
