@@ -16,11 +16,11 @@ use Rattle.grammar.specs.Form.{bytesSaid, Says, line, saying}
 use Rattle.grammar.specs.Grammar.{one, many, Contents, manyLines, linesOf, bytesOfAll}
 use Rattle.grammar.specs.Clear.{Clear}
 use Rattle.grammar.specs.Size.{maxText}
-use Rattle.grammar.specs.FormLaws.{Look, looked, least}
+use Rattle.grammar.specs.FormLaws.{Look, looked}
 use Rattle.grammar.specs.TextReadingLaws.{many-stand}
 use Rattle.grammar.specs.TextReading.{Seen, found, other, seen, manyAt, afterMany}
 use Rattle.grammar.specs.TextReading.{Reading, read, stopped, long, also, readAt, readText}
-use Rattle.grammar.specs.BlockLaws.{read-line, read-other, read-many, read-end, read-more, other-word, word-inside, none-of-many, many-short}
+use Rattle.grammar.specs.BlockLaws.{read-line, read-other, read-many, read-end, read-more, other-word, word-inside, none-of-many}
 use Rattle.text.specs.declared.lines.LineRead.{LineRead}
 use Rattle.text.specs.declared.runs.Run.{Run}
 use Rattle.text.specs.LineRead.{slotsOf, codes, lineReadAt}
@@ -119,7 +119,8 @@ module _ (s : List ℕ) (short : length s ≤ maxText) {f : LineRead} (fe : f �
         let z : r .line + length points ≡ r .line = omega (arith, ap length (o .0)) in
         ap refusedMonitor (b .0 ∙ ap badLine (sym z)) ∙ more (omega (arith, o .1, word-inside s (r .next) 114 (b .1 .0) _ (b .1 .1)))
 
-    module _ {g : Run} (ge : g ≡ runAt pointWord (number ∷ signed ∷ []) 0 nodeCount s (r .next)) where
+    -- the run of point lines, whatever its bound
+    module _ (bound : ℕ) {g : Run} (ge : g ≡ runAt pointWord (number ∷ signed ∷ []) 0 bound s (r .next)) where
       count-is : g .count ≡ length points
       unfolding runAt points
       count-is = ap (λ (y : Run). y .count) ge
@@ -128,14 +129,6 @@ module _ (s : List ℕ) (short : length s ≤ maxText) {f : LineRead} (fe : f �
       unfolding runAt end
       end-is = ap (λ (y : Run). y .next) ge
 
-      good-is : g .below ≡ benchPoints (pointsSaid points)
-      unfolding runAt points
-      good-is = ap (λ (y : Run). y .below) ge ∙ bench-below (manyAt (line pointLine) (length s) s (r .next))
-
-      pub points-few : g .count ≤ length s
-      unfolding points least
-      points-few = omega (arith, count-is, many-short (line pointLine) s (length s) (r .next))
-
       pub goes-on : g .next < length s → refusedMonitor (badLine (r .line + g .count)) ≡ monitorText s
       goes-on h = ap (λ (n : ℕ). refusedMonitor (badLine (r .line + n))) count-is ∙ more (omega (arith, end-is))
 
@@ -143,16 +136,21 @@ module _ (s : List ℕ) (short : length s ≤ maxText) {f : LineRead} (fe : f �
       read-all h =
           behind ∙ ap (λ (y : Reading (Unit {0})). also (x .vs) (also vss (also points y))) (read-end s end (r .line + length points) (omega (arith, end-is)))
 
-      line-is : r .line ≡ 2 + length vss
-      unfolding vss
-      line-is = read-line-number s at 2 re
+    line-is : r .line ≡ 2 + length vss
+    unfolding vss
+    line-is = read-line-number s at 2 re
+
+    module _ {g : Run} (ge : g ≡ runAt pointWord (number ∷ signed ∷ []) 0 nodeCount s (r .next)) where
+      good-is : g .below ≡ benchPoints (pointsSaid points)
+      unfolding runAt points
+      good-is = ap (λ (y : Run). y .below) ge ∙ bench-below (manyAt (line pointLine) (length s) s (r .next))
 
       pub off-bench : length s ≤ g .next → g .below < g .count → refusedMonitor (badNode (r .line + g .below)) ≡ monitorText s
       unfolding monitorOf benchOr
       off-bench h l =
-          let a : benchPoints (pointsSaid points) < length (pointsSaid points) = omega (arith, good-is, count-is, said-length points) in
+          let a : benchPoints (pointsSaid points) < length (pointsSaid points) = omega (arith, good-is, count-is nodeCount ge, said-length points) in
           let p : r .line + g .below ≡ 2 + length vss + benchPoints (pointsSaid points) = omega (arith, line-is, good-is) in
-          ap (λ (n : ℕ). refusedMonitor (badNode n)) p ∙ off a ∙ of-reading s (read-all h)
+          ap (λ (n : ℕ). refusedMonitor (badNode n)) p ∙ off a ∙ of-reading s (read-all nodeCount ge h)
         where
           off : benchPoints (pointsSaid points) < length (pointsSaid points)
               → refusedMonitor (badNode (2 + length vss + benchPoints (pointsSaid points))) ≡ monitorOf (read (x .vs, (vss, (points, tt))))
@@ -178,8 +176,8 @@ module _ (s : List ℕ) (short : length s ≤ maxText) {f : LineRead} (fe : f �
           → givenMonitor c (getD (f .values) 1 0) (r .list) (r .next) ≡ monitorText s
       unfolding monitorOf benchOr readMonitor
       whole {c} e h l =
-          let a : length (pointsSaid points) ≤ benchPoints (pointsSaid points) = omega (arith, good-is, count-is, said-length points) in
-          (λ i. givenMonitor ((e ∙ centre-is) i) (sigma-is i) (list-is i) (begin i)) ∙ on a ∙ of-reading s (read-all h)
+          let a : length (pointsSaid points) ≤ benchPoints (pointsSaid points) = omega (arith, good-is, count-is nodeCount ge, said-length points) in
+          (λ i. givenMonitor ((e ∙ centre-is) i) (sigma-is i) (list-is i) (begin i)) ∙ on a ∙ of-reading s (read-all nodeCount ge h)
         where
           on : length (pointsSaid points) ≤ benchPoints (pointsSaid points)
               → givenMonitor (x .vs .0) (x .vs .1 .0) (ruleListOf (rulesSaid vss)) (pointsFrom (x .vs) vss) ≡ monitorOf (read (x .vs, (vss, (points, tt))))

@@ -11,7 +11,8 @@ use Rattle.decimal.specs.declared.word.Found.the-variants.{At, Absent}
 use Rattle.grammar.specs.LineValues.{Field, Values}
 use Rattle.grammar.specs.Form.{named, line}
 use Rattle.grammar.specs.TextReading.{manyAt, afterMany}
-use Rattle.grammar.specs.BlockLaws.{line-reaches}
+use Rattle.grammar.specs.FormLaws.{least}
+use Rattle.grammar.specs.BlockLaws.{line-reaches, many-short}
 use Rattle.grammar.specs.TurnLaws.{ReadUpTo, read-up-start, read-up-more, read-up-done}
 use Rattle.text.specs.declared.lines.LineRead.{LineRead}
 use Rattle.text.specs.declared.runs.Run.{Run}
@@ -98,3 +99,11 @@ module _ {word : List ℕ} {fs : List Field} {field bound : ℕ} {s : List ℕ} 
         let c : count ≡ length (manyAt (line (named word fs)) (length s) s at) = u .counted ∙ ap length (d .0) in
         let b : below ≡ linesBelow fs field bound (manyAt (line (named word fs)) (length s) s at) = u .all-below ∙ ap (linesBelow fs field bound) (d .0) in
         rw (← c, ← b, ← (d .1))
+
+-- ---- for those who read on
+
+-- a run has no more lines than the text has bytes
+pub run-few : (word : List ℕ) (fs : List Field) (field bound : ℕ) (s : List ℕ) (at : ℕ) {r : Run} → r ≡ runAt word fs field bound s at
+    → r .count ≤ length s
+unfolding runAt least
+run-few word fs field bound s at e = omega (arith, ap (λ (x : Run). x .count) e, many-short (line (named word fs)) s (length s) at)

@@ -3,8 +3,9 @@ use borrow.Author.Needs.{needs}
 use native.Mathlib.Omega.{arith}
 use mathlib.Core.Path.{_∙_}
 use mir.Facts.{toZ-ofZ}
+use Rattle.text.specs.RunLaws.{run-few}
 use Rattle.rule_lines.specs.RuleTurnLaws.{read-few}
-use Rattle.monitor_text.specs.MonitorTextLaws.{too-long, other-first, bad-rule, points-few, goes-on, off-bench, whole}
+use Rattle.monitor_text.specs.MonitorTextLaws.{too-long, other-first, bad-rule, goes-on, off-bench, whole}
 use Rattle.monitor_text.proofs.monitors.monitor_text.Statement.{statement}
 use Rattle.monitor_text.proofs.monitors.monitor_text.Tie as tie
 
@@ -68,8 +69,7 @@ add-refused-monitor c =
     let l = k .before .before in
     let i = l .before .before .before in
     let a = read-few _ _ _ (r .read-rules .ensures) in
-    let p = points-few _ (omega (arith, i .if1 .left)) (l .line-at .ensures) (k .behind .given .1) (r .read-rules .ensures) (g .run-at .ensures) in
-    omega (arith, a, p)
+    omega (arith, a, run-few _ _ _ _ _ _ (g .run-at .ensures), i .if1 .left)
 
 refused-monitor-requires-4 : tie.Need-refused-monitor-requires-4
 refused-monitor-requires-4 c κs = search needs
@@ -81,7 +81,7 @@ returns-4 c =
     let k = r .before .before in
     let l = k .before .before in
     let i = l .before .before .before in
-    c .refused-monitor4 .ensures ∙ goes-on _ (omega (arith, i .if1 .left)) (l .line-at .ensures) (k .behind .given .1) (r .read-rules .ensures) (g .run-at .ensures) (c .before .if3 .taken)
+    c .refused-monitor4 .ensures ∙ goes-on _ (omega (arith, i .if1 .left)) (l .line-at .ensures) (k .behind .given .1) (r .read-rules .ensures) _ (g .run-at .ensures) (c .before .if3 .taken)
 
 add-refused-monitor-2 : tie.Need-add-refused-monitor-2
 add-refused-monitor-2 c =
@@ -91,8 +91,7 @@ add-refused-monitor-2 c =
     let l = k .before .before in
     let i = l .before .before .before in
     let a = read-few _ _ _ (r .read-rules .ensures) in
-    let p = points-few _ (omega (arith, i .if1 .left)) (l .line-at .ensures) (k .behind .given .1) (r .read-rules .ensures) (g .run-at .ensures) in
-    omega (arith, a, p, c .if4 .taken)
+    omega (arith, a, run-few _ _ _ _ _ _ (g .run-at .ensures), i .if1 .left, c .if4 .taken)
 
 refused-monitor-requires-5 : tie.Need-refused-monitor-requires-5
 refused-monitor-requires-5 c κs = search needs
