@@ -1,6 +1,6 @@
 #!/usr/bin/env bash
-# Compares docs/ARCHITECTURE.md with docs/SPECIFICATION.md and the crates: every numbered sentence is mapped, and every path, definition, law, function
-# and edit that is named exists.
+# Compares docs/ARCHITECTURE.md with docs/SPECIFICATION.md and the crates: every numbered sentence is mapped, every path, definition, law, function
+# and edit that is named exists, and a name with a file of definitions behind it stands in that file.
 set -euo pipefail
 cd "$(dirname "$0")/.."
 
@@ -31,14 +31,19 @@ trap 'rm -f "$words"' EXIT
   find crates -printf '%f\n'
   find crates \( -name '*.edit' -o -name '*.antt' \) -printf '%f\n' | sed -E 's/\.(edit|antt)$//'
 } | LC_ALL=C sort -u >"$words"
-# The letters R, M, L .. stand for the folders that the map gives them; X stands for any name.
+# The path of a name: the letters R, M, L .. stand for the folders that the map gives them.
+path_of() {
+  local whole
+  whole=$(tr '\n' ' ' <"$map" | grep -oE "\`${1%%/*}\` is \`crates/[a-z_]+/specs\`" | head -n 1 | sed -E 's/.* is `(.*)`/\1/' || true)
+  if [ -n "$whole" ]; then echo "$whole/${1#*/}"; else echo "$1"; fi
+}
+
+# X stands for any name.
 while read -r name; do
   case $name in
     X.antt | XLaws.antt) ;;
     */* | *.md | *.sh)
-      folder=${name%%/*}
-      whole=$(tr '\n' ' ' <"$map" | grep -oE "\`$folder\` is \`crates/[a-z_]+/specs\`" | head -n 1 | sed -E 's/.* is `(.*)`/\1/' || true)
-      [ -n "$whole" ] && name=$whole/${name#*/}
+      name=$(path_of "$name")
       compgen -G "$name" >/dev/null || compgen -G "docs/$name" >/dev/null || { echo "FAILED no such path: $name"; failed=1; } ;;
     *)
       last=${name##*::}
@@ -46,7 +51,21 @@ while read -r name; do
   esac
 done < <(tr '\n' ' ' <"$map" | sed -E 's/```[^`]*```//g' | grep -oE '`[^`]+`' | tr -d '`' | grep -E "^[A-Za-z][A-Za-z0-9_'′:./*-]*$" | sort -u)
 
+# Every name right before its file, `name` (`file`), or its files: it stands in one of them.
+while read -r group; do
+  files=()
+  for file in $(grep -oE '`[^` ]+\.antt`' <<<"$group" | tr -d '`'); do
+    case $file in
+      */*) files+=("$(path_of "$file")") ;;
+      *) mapfile -t -O "${#files[@]}" files < <(find crates -path "*/specs/$file") ;;
+    esac
+  done
+  for name in $(grep -oE '`[^` ]+`' <<<"$group" | tr -d '`' | grep -vE '\.antt$'); do
+    grep -qhE -- "(^|[^A-Za-z0-9_'′-])${name//./\\.}([^A-Za-z0-9_'′-]|$)" "${files[@]}" || { echo "FAILED $name is not in ${files[*]}"; failed=1; }
+  done
+done < <(tr '\n' ' ' <"$map" | grep -oE '(`[A-Za-z][^` /]*`(,| and)? )+(\(|of |in )`[^` ]+\.antt`(, `[^` ]+\.antt`)*')
+
 if [ "$failed" -eq 0 ]; then
-  echo "documents: $(wc -w <<<"$sentences") sentences mapped, every name exists"
+  echo "documents: $(wc -w <<<"$sentences") sentences mapped, every name exists, and stands in the file beside it"
 fi
 exit "$failed"

@@ -25,8 +25,6 @@ module _ (b : Batch) (s p a : List ℕ) (r : ℕ) (code : r ≡ checkCode (batch
       let t = eq-eqb (checkCode (batchChecked b)) 0 zero in
       record { code = sym zero; state = rw t es; points = rw t ep; answer = rw t ea }
 
--- no reading was taken: for want of one, or for a refusal
-
 -- x is the batch of the list k that the call made of the slots, and of the centre c as it was read back
 pub same-batch : {l k : RuleList} {centre c : ℤ} → k ≡ l → c ≡ centre → (m : Monitor) (sigma : ℕ) (xs : List ℤ) (x : Batch)
     → x ≡ batchOf k m c sigma xs → x ≡ batchOf l m centre sigma xs

@@ -1,4 +1,4 @@
--- What the line parser gives: definitions and laws.
+-- What the parser gives of a line and of a run of lines: definitions and laws.
 pub mod LineRead
 pub mod LineReadLaws
 pub mod Run

@@ -1,4 +1,4 @@
--- `one_more` meets its contract: behind a value over the bound nothing counts; else the value decides.
+-- `one_more` meets its contract: behind a value that is not below the bound nothing counts; else the value decides.
 use borrow.Author.Needs.{needs}
 use native.Mathlib.Omega.{arith}
 use borrow.Author.Tests.{lt-ltb, le-ltb}
