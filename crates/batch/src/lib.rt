@@ -9,7 +9,7 @@ use rules::{Checked, MAX_NUMBER, Refusal, RuleList};
 
 // How far the readings were taken. It stopped at a refusal where the refusal's number is not 0: where `taken` is 0 the batch is refused, else
 // reading `taken` met a full count and was not taken. It stopped at a signal where the last reading taken is one. Else all were taken.
-#[derive(Drop)]
+#[derive(Clone, Copy)]
 pub struct Batch {
     pub taken: usize,
     pub refusal: Refusal,
@@ -19,7 +19,7 @@ pub struct Batch {
 }
 
 // What the last reading that was taken is answered: quiet, also where none was, or signal with its mask.
-#[derive(Drop)]
+#[derive(Clone, Copy)]
 pub enum LastPoint {
     Quiet,
     Signal(u32),

@@ -15,7 +15,7 @@ use search::{Crossing, lower, upper};
 mod search;
 
 // Where the percentile lies: at a number, between two, at one or above, or beyond the list's length.
-#[derive(Drop)]
+#[derive(Clone, Copy)]
 pub enum Bracket {
     At(u32),
     Between { low: u32, high: u32 },
@@ -23,7 +23,7 @@ pub enum Bracket {
     Beyond(u32),
 }
 
-#[derive(Drop)]
+#[derive(Clone, Copy)]
 pub enum BracketAnswer {
     Accepted(Bracket),
     Refused(Refusal),

@@ -10,7 +10,7 @@ ghost use Rattle.bracket.specs.Crossing.{option_of, reach_test, Summable};
 use runlength::{PERCENTS_PER_ONE, UNITS_PER_ONE};
 
 // What a search for the least number found.
-#[derive(Drop)]
+#[derive(Clone, Copy)]
 pub(crate) enum Crossing {
     First(u32),
     Never,

@@ -8,7 +8,7 @@ ghost use Rattle.chain.specs.ChainMade.{ChainMade};
 use rules::{Refusal, RuleList, ZONES};
 
 // So many states that differ, or why the chart is refused.
-#[derive(Drop)]
+#[derive(Clone, Copy)]
 pub enum ChainAnswer {
     Accepted(usize),
     Refused(Refusal),

@@ -33,6 +33,7 @@ not_eight (there (there (here e))) q = omega arith
 not_eight (there (there (there (here e)))) q = omega arith
 not_eight (there (there (there (there (here e))))) q = omega arith
 not_eight (there (there (there (there (there (here e)))))) q = omega arith
+not_eight (there (there (there (there (there (there o)))))) q = elim o [ ]
 
 module _ (s : ℤ) (w : ZoneWeights) (ok : shift_of s ≡ Accepted w) where
   -- A chart with these weights is checked as if there were no check of weights: 2, 3, 4; 9; 10.

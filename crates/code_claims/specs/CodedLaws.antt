@@ -49,6 +49,7 @@ all_fit (n ∷ ns) = cond (within 1 max_number n) (all_fit ns) false
 
 fits : (ns : List ℕ) {n : ℕ} → all_fit ns ≡ true → OneOf ns n → (1 ≤ n) × (n ≤ max_number)
 unfolding all_fit
+fits [] e o = elim o [ ]
 fits (m ∷ ns) {n} e (here q) = rw q (between 1 max_number m (both (within 1 max_number m) (all_fit ns) e).0)
 fits (m ∷ ns) {n} e (there o) = fits ns (both (within 1 max_number m) (all_fit ns) e).1 o
 
@@ -80,6 +81,7 @@ list_first : {ns : List ℕ} {n : ℕ} → OneOf rule_numbers n → OneOf (bad_r
 list_first (here e) = here e
 list_first (there (here e)) = there (here e)
 list_first (there (there (here e))) = there (there (here e))
+list_first (there (there (there o))) = elim o [ ]
 
 -- a step is refused by what its check says
 pub step_checked_lem : (l : RuleList) (m : Monitor) (z : ℕ) → step_checked (step_of l m z) ≡ step_check l m z

@@ -10,7 +10,7 @@ use rules::MAX_NUMBER;
 const LARGEST: u64 = MAX_NUMBER as u64;
 
 // A number and the offset past it.
-#[derive(Drop)]
+#[derive(Clone, Copy)]
 pub enum Number {
     Value(u32, usize),
     NoNumber,

@@ -118,10 +118,10 @@ module _ {s : List ℕ} where
       → values_from fs s p ≡ found x next
   unfolding values_from values_bytes ValuesFit
   values_read [] x u r = rw (word_read newline u)
-  values_read (f ∷ fs) x u r =
+  values_read {p = p} (f ∷ fs) x u r =
       let v = spans_front (value_bytes f x.0) (values_bytes fs x.1) u in
       let b = spans_back (value_bytes f x.0) (values_bytes fs x.1) u in
-      rw (value_read f x.0 v r.0 (values_end fs x.1 b), values_read fs x.1 b r.1)
+      rw (value_read f x.0 v r.0 (values_end fs x.1 b), values_read {p = p + length (value_bytes f x.0)} fs x.1 b r.1)
 
   pub word_values_read : {at next : ℕ} (w : List ℕ) (fs : List Field) (x : Values fs) → Spans s at (w ++ values_bytes fs x) next
       → ValuesFit fs x → values_at w fs s at ≡ found x next

@@ -28,14 +28,17 @@ agree_is (named w fs) (named v gs) e = λ h.
     (sym (ap (λ (b : Bool). cond b (eqb (fields_number fs) (fields_number gs)) true) (eq-eqb (word_number w) (word_number v) h)) ∙ e)
 
 agree_all_lem : (k j : Kind) (js : List Kind) → In j js → agree_all k js ≡ true → Agree k j
+agree_all_lem k j [] h a = elim h [ ]
 agree_all_lem k j (i ∷ js) first a = agree_is k j (both (agree k j) _ a).0
 agree_all_lem k j (i ∷ js) (later h) a = agree_all_lem k j js h (both (agree k i) _ a).1
 
 pub told_agree : (k j : Kind) (ks js : List Kind) → In k ks → In j js → Told ks js → Agree k j
+told_agree k j [] js o h t = elim o [ ]
 told_agree k j (i ∷ ks) js first h t = agree_all_lem k j js h (both (agree_all k js) _ (both (proper k) _ t).1).0
 told_agree k j (i ∷ ks) js (later o) h t = told_agree k j ks js o h (both (agree_all i js) _ (both (proper i) _ t).1).1
 
 pub told_proper : (k : Kind) (ks js : List Kind) → In k ks → Told ks js → Proper k
+told_proper k [] js h t = elim h [ ]
 told_proper k (i ∷ ks) js first t = proper_is k (both (proper k) _ t).0
 told_proper k (i ∷ ks) js (later h) t = told_proper k ks js h (both (agree_all i js) _ (both (proper i) _ t).1).1
 

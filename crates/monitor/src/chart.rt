@@ -1,6 +1,6 @@
 // A chart: what a reading is measured by.
 // A chart's centre and sigma (document 01's step d).
-#[derive(Drop)]
+#[derive(Clone, Copy)]
 pub struct Chart {
     pub centre: i32,
     pub sigma: u32,

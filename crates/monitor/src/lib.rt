@@ -18,14 +18,14 @@ pub use zone::{ZONE_A1, ZONE_A2, ZONE_B1, ZONE_B2, ZONE_C0, ZONE_C1, ZONE_C2, ZO
 
 // The state (document 01's standing): the window of rule i is digit i in base 256, and in it the hit of age a is digit a - 1 in base 2.
 // The count: the points since the last reset.
-#[derive(Drop)]
+#[derive(Clone, Copy)]
 pub struct Monitor {
     pub state: u64,
     pub count: u32,
 }
 
 // What a step answers: the count with this point in it, the mask of all rules that hold, and the monitor for the next point.
-#[derive(Drop)]
+#[derive(Clone, Copy)]
 pub enum Step {
     Refused(Refusal),
     Quiet {
@@ -41,7 +41,7 @@ pub enum Step {
 
 // What a point does where nothing is refused: quiet, with the monitor for the next point; or signal, with the mask of all rules that hold, and a
 // fresh monitor comes next.
-#[derive(Drop)]
+#[derive(Clone, Copy)]
 pub enum Taken {
     Quiet(Monitor),
     Signal(u32),

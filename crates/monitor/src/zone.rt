@@ -6,7 +6,7 @@ ghost use Rattle.monitor.specs.Zone.{zone_of, zone_at, band, min_sigma, max_sigm
 use crate::chart::Chart;
 use rules::Refusal;
 
-#[derive(Drop)]
+#[derive(Clone, Copy)]
 pub enum ZoneAnswer {
     Zone(u32),
     Refused(Refusal),

@@ -12,7 +12,7 @@ pub const POINT_ROOM: usize = 6 + 4 * write::SHORT_FIELD + 1;
 pub const TOTAL_ROOM: usize = 5 + 3 * write::SHORT_FIELD + 1;
 
 // What a point's line says: its node, its count since the node's last clearing, for a signal the mask of the rules that hold, and its period.
-#[derive(Drop)]
+#[derive(Clone, Copy)]
 pub enum PointLine {
     Quiet {
         node: u32,
@@ -60,7 +60,7 @@ pub fn put_point(out: &mut [u8], at: usize, line: PointLine) -> usize
 }
 
 // What a node's last line says: the node, its points and its signals.
-#[derive(Drop)]
+#[derive(Clone, Copy)]
 pub struct TotalLine {
     pub node: u32,
     pub points: u32,

@@ -72,7 +72,7 @@ node_more rs k zs z =
     let before = taken_answers rs fresh_monitor zs in
     let signals : signals_in (taken_answers rs fresh_monitor (zs ++ (z ∷ []))) ≡ signals_in before + bit (is_signal (answer_after rs fresh_monitor zs z)) =
     ap signals_in (answers_more rs fresh_monitor zs z) ∙ signals_more before (answer_after rs fresh_monitor zs z) in
-    rw (after_more rs fresh_monitor zs z, points, signals) (sym (node_next k _ (m.count + 1) (taken_of rs m z)))
+    rw (after_more rs fresh_monitor zs z, points, signals) (sym (node_next k (node_after rs zs) (m.count + 1) (taken_of rs m z)))
 
 -- a point's line is that of its answer
 pub node_line : (k : ℕ) (n : Node) (t : Taken) → point_bytes (node_point k n t).line ≡ line_of k (answer_of (n.monitor.count + 1) t) (n.points + 1)

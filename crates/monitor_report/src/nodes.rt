@@ -16,7 +16,7 @@ use monitor_text::NODES;
 use rules::RuleList;
 
 // What is kept of a node: its monitor, and how many points and signals it had.
-#[derive(Drop)]
+#[derive(Clone, Copy)]
 pub(crate) struct Node {
     pub(crate) monitor: Monitor,
     pub(crate) points: u32,
@@ -24,7 +24,7 @@ pub(crate) struct Node {
 }
 
 // What a point of a node says, and the node behind it.
-#[derive(Drop)]
+#[derive(Clone, Copy)]
 pub(crate) struct NodePoint {
     pub(crate) line: PointLine,
     pub(crate) next: Node,

@@ -11,7 +11,7 @@ use rules::{Refusal, RuleList};
 use text::{MAX_TEXT, line_at, run_at};
 
 // What was read, with the number 0: the chart, the rules, and the offset of the first point line. Or the refusal, and zeros and no rules.
-#[derive(Drop)]
+#[derive(Clone, Copy)]
 pub struct MonitorText {
     pub refusal: Refusal,
     pub centre: i32,

@@ -6,7 +6,7 @@ use runlength::WEIGHT_TOTAL;
 use sources::index;
 
 // What the row has moved so far: left is the sum of the new units, and left * 2^30 + rest the sum of all that came into their states.
-#[derive(Drop)]
+#[derive(Clone, Copy)]
 struct Moved {
     left: u64,
     rest: u64,
@@ -56,7 +56,7 @@ fn stretch(
 }
 
 // What one row adds to the two lists.
-#[derive(Drop)]
+#[derive(Clone, Copy)]
 pub struct Point {
     pub pmf: u64,
     pub survival: u64,

@@ -55,7 +55,7 @@ fn gather(units: &[u64], sources: &[u16], first: usize, last: usize) -> u64
 }
 
 // What comes into a state, in two words: high * 2^30 + low.
-#[derive(Drop)]
+#[derive(Clone, Copy)]
 pub struct Inflow {
     pub high: u64,
     pub low: u64,

@@ -5,14 +5,14 @@ ghost use Rattle.io.specs.Counts.{IsPrefixLen};
 use libc::{EINTR, STDIN_FILENO};
 
 // How much was read, and whether a read failed.
-#[derive(Drop)]
+#[derive(Clone, Copy)]
 pub struct Input {
     pub len: usize,
     pub failed: bool,
 }
 
 // What one read gave.
-#[derive(Drop)]
+#[derive(Clone, Copy)]
 struct More {
     n: usize,
     ended: bool,

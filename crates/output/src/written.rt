@@ -4,7 +4,7 @@ ghost use Rattle.std.specs.Prelude.{◌≡◌, false, ◌+◌, ◌≤◌, length
 use libc::{EINTR, STDOUT_FILENO};
 
 // How many bytes were taken, as the writes answered, and whether one failed.
-#[derive(Drop)]
+#[derive(Clone, Copy)]
 pub(crate) struct Put {
     pub n: usize,
     pub failed: bool,

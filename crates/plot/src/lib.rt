@@ -15,7 +15,7 @@ use summary::{Summary, SummaryAnswer, table_summary};
 use table::TableFigures;
 
 // A percentile for the plotter: at a number, between two, at one or above, or beyond the horizon.
-#[derive(Drop)]
+#[derive(Clone, Copy)]
 pub enum PlotItem {
     Point(f64),
     Span(f64, f64),
@@ -25,7 +25,7 @@ pub enum PlotItem {
 
 // The restricted mean is at least `lower`, and with its error bound at most `upper`. The interquartile range `iqr` is the
 // difference of the points 75 and 25; where one of them is no point it is 0 and `has_iqr` is false.
-#[derive(Drop)]
+#[derive(Clone, Copy)]
 pub struct PlotRecord {
     pub p5: PlotItem,
     pub p25: PlotItem,
@@ -38,14 +38,14 @@ pub struct PlotRecord {
     pub has_iqr: bool,
 }
 
-#[derive(Drop)]
+#[derive(Clone, Copy)]
 pub enum BoxPlotAnswer {
     Accepted(PlotRecord),
     Refused(Refusal),
 }
 
 // The interquartile range, and whether there is one.
-#[derive(Drop)]
+#[derive(Clone, Copy)]
 struct Spread {
     iqr: f64,
     has_iqr: bool,

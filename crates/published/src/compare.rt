@@ -1,7 +1,7 @@
 // A published figure beside ours, and the count of those that are met.
 use crate::decimal;
 
-#[derive(Drop)]
+#[derive(Clone, Copy)]
 pub struct Tally {
     pub figures: u64,
     pub met: u64,

@@ -4,7 +4,7 @@ ghost use Rattle.std.specs.Prelude.{◌≤◌};
 use runlength::UNITS_PER_ONE;
 
 // The fraction is in units of 2^-60.
-#[derive(Drop)]
+#[derive(Clone, Copy)]
 pub struct Exact {
     pub whole: u64,
     pub fraction: u64,

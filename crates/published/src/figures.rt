@@ -6,7 +6,7 @@ use runlength::MAX_HORIZON;
 use table::{TableAnswer, TableFigures};
 
 // `first` is the probability of a signal at the first point. A quartile that is no single number is 0, which no run length is.
-#[derive(Drop)]
+#[derive(Clone, Copy)]
 pub struct Figures {
     pub mean: Exact,
     pub first: Exact,

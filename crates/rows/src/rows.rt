@@ -9,7 +9,7 @@ use runlength::UNITS_PER_ONE;
 use sources::list_sources;
 
 // What the rows leave besides the two lists: the survival at the horizon, and the restricted mean as whole points and units.
-#[derive(Drop)]
+#[derive(Clone, Copy)]
 pub struct Totals {
     pub survival: u64,
     pub mean_whole: u64,

@@ -9,7 +9,7 @@ use text::line_at;
 
 // The line where a rule may come next: one that does not begin with the word `rule`, one that gives a rule's three numbers, or one that begins
 // so and does not give them.
-#[derive(Drop)]
+#[derive(Clone, Copy)]
 pub enum RuleLine {
     Absent,
     Rule {
@@ -23,7 +23,7 @@ pub enum RuleLine {
 
 // The rules, and the offset and the number of the first line that is no rule line; with the refusal of that line where it begins as a
 // rule line and does not give three numbers, else with the number 0.
-#[derive(Drop)]
+#[derive(Clone, Copy)]
 pub struct RulesRead {
     pub refusal: Refusal,
     pub list: RuleList,

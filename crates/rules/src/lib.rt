@@ -16,7 +16,7 @@ pub const ZONES: usize = 8;
 pub const MAX_NUMBER: u32 = 4294967295;
 
 // Document 01's T(k,m,Z): signals when at least k of the last m points lie in the zones of the set, written as the sum of 2^zone.
-#[derive(Drop)]
+#[derive(Clone, Copy)]
 pub struct Rule {
     pub k: u32,
     pub m: u32,
@@ -24,14 +24,14 @@ pub struct Rule {
 }
 
 // The first `len` rules count; the slots after them are never looked at.
-#[derive(Drop)]
+#[derive(Clone, Copy)]
 pub struct RuleList {
     pub rules: [Rule; RuleList::MAX_RULES as usize],
     pub len: u32,
 }
 
 // What the check of a list, or of one rule, answers.
-#[derive(Drop)]
+#[derive(Clone, Copy)]
 pub enum Checked {
     Accepted,
     Refused(Refusal),

@@ -1,7 +1,7 @@
 // Why an operation turns its input down: every number there is, each written here once.
 
 // The number, and where it has one its place: the index of the rule for 3 and 4, the line for 16 and 19, else 0.
-#[derive(Drop)]
+#[derive(Clone, Copy)]
 pub struct Refusal {
     pub number: u32,
     pub place: u32,

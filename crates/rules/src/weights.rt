@@ -5,7 +5,7 @@ ghost use Rattle.rules.specs.Weights.{weight_list};
 use crate::ZONES;
 
 // From zone 0 on. An enum can hold no array, but this.
-#[derive(Drop)]
+#[derive(Clone, Copy)]
 pub struct ZoneWeights {
     pub s: u32,
     pub a1: u32,

@@ -12,7 +12,7 @@ use areas::{AREAS, LAST};
 use rules::{Refusal, ZoneWeights};
 use runlength::WEIGHT_TOTAL;
 
-#[derive(Drop)]
+#[derive(Clone, Copy)]
 pub enum ShiftAnswer {
     Accepted(ZoneWeights),
     Refused(Refusal),

@@ -13,7 +13,7 @@ use rules::{Refusal, RuleList, ZONES};
 use table::{TableAnswer, TableFigures};
 
 // The error bound (document 01's allowed shortfall) is of the mean, in units of 2^-60. Of each percent the bracket of its percentile.
-#[derive(Drop)]
+#[derive(Clone, Copy)]
 pub struct Summary {
     pub figures: TableFigures,
     pub error_bound: u64,
@@ -24,7 +24,7 @@ pub struct Summary {
     pub p95: Bracket,
 }
 
-#[derive(Drop)]
+#[derive(Clone, Copy)]
 pub enum SummaryAnswer {
     Accepted(Summary),
     Refused(Refusal),

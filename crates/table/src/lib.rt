@@ -12,7 +12,7 @@ pub use check::check_chain;
 
 // What an accepted call answers besides the two lists: N, the number of states that differ, left at the horizon, and the cut mean as whole
 // part and fraction in units of 2^-60.
-#[derive(Drop)]
+#[derive(Clone, Copy)]
 pub struct TableFigures {
     pub state_count: u32,
     pub survival: u64,
@@ -20,7 +20,7 @@ pub struct TableFigures {
     pub mean_fraction: u64,
 }
 
-#[derive(Drop)]
+#[derive(Clone, Copy)]
 pub enum TableAnswer {
     Accepted(TableFigures),
     Refused(Refusal),

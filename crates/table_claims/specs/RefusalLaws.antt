@@ -18,6 +18,7 @@ more_numbers : {x : ℕ} → OneOf rule_numbers x → OneOf chain_numbers x
 more_numbers (here e) = here e
 more_numbers (there (here e)) = there (here e)
 more_numbers (there (there (here e))) = there (there (here e))
+more_numbers (there (there (there o))) = elim o [ ]
 
 pub chain_number : (l : RuleList) (w : List ℕ) (h : ℕ) (x : Refusal) → chain_check l w h ≡ Refused x → OneOf chain_numbers x.number
 unfolding chain_check

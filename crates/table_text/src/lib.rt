@@ -10,7 +10,7 @@ use rules::{Refusal, RuleList, ZONES};
 use text::{MAX_TEXT, line_at};
 
 // What was read, with the number 0; or the refusal, and no weights, no rules and no horizon.
-#[derive(Drop)]
+#[derive(Clone, Copy)]
 pub struct TableText {
     pub refusal: Refusal,
     pub weights: [u32; ZONES],

@@ -9,7 +9,7 @@ pub const MOST_FIELDS: usize = 8;
 
 // A line of the kind that was asked for: the offset of the line behind it, and the values of its fields, with 0 behind them. Or any other
 // line: no offset, and zeros. A signed value is kept 2^31 higher.
-#[derive(Drop)]
+#[derive(Clone, Copy)]
 pub struct LineRead {
     pub next: Found,
     pub values: [u32; MOST_FIELDS],

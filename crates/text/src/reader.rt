@@ -7,7 +7,7 @@ ghost use Rattle.text.specs.Run.{run_at};
 use crate::lines::{LineRead, parse_line};
 use crate::runs::{Run, parse_run};
 
-#[derive(Drop)]
+#[derive(Clone, Copy)]
 pub struct Reader<'a> {
     pub text: &'a [u8],
     pub at: usize,

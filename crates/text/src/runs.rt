@@ -9,7 +9,7 @@ use decimal::Found;
 
 // How many lines there are, how many of them come before the first whose value of one field is not below a bound, and the offset of the first
 // line that is none of the kind.
-#[derive(Drop)]
+#[derive(Clone, Copy)]
 pub struct Run {
     pub count: u32,
     pub below: u32,

@@ -5,7 +5,7 @@ use crate::answers;
 use monitor::zone::zone_of;
 
 // A reading, the centre line, sigma.
-#[derive(Drop)]
+#[derive(Clone, Copy)]
 struct Case(i32, i32, u32);
 
 const LOWEST: i32 = -2147483648;

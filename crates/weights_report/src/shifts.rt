@@ -8,7 +8,7 @@ use rules::Refusal;
 use text::{MAX_TEXT, line_at};
 
 // What was read, with the number 0: the shift, in hundredths of sigma. Or the refusal, and 0.
-#[derive(Drop)]
+#[derive(Clone, Copy)]
 pub struct ShiftText {
     pub refusal: Refusal,
     pub shift: i32,

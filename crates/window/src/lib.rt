@@ -5,7 +5,7 @@ mod window;
 pub use state::{move_of, valid_state};
 
 // What a point does to a state, whatever the count: quiet, with the next state; or signal, with the mask of all rules that hold.
-#[derive(Drop)]
+#[derive(Clone, Copy)]
 pub enum Move {
     Quiet(u64),
     Signal(u32),

@@ -15,7 +15,7 @@ pub(crate) const MAX_AGE: u32 = RuleList::MAX_WINDOW - 1;
 pub(crate) const BASE: u64 = 1 << MAX_AGE;
 
 // What a point does to a window.
-#[derive(Drop)]
+#[derive(Clone, Copy)]
 pub(crate) struct WindowMove {
     pub(crate) holds: u32,
     pub(crate) next: u64,

@@ -20,7 +20,7 @@ pub const FIELD_ROOM: usize = 1 + NUMBER_ROOM;
 pub const SHORT_FIELD: usize = 1 + SHORT_ROOM;
 
 // What a report answers: the bytes that it wrote into the lent buffer, or the refusal.
-#[derive(Drop)]
+#[derive(Clone, Copy)]
 pub enum ReportAnswer {
     // So many bytes were written.
     Written(usize),

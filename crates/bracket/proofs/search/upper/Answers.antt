@@ -1,0 +1,17 @@
+-- `search::upper` meets its contract: the search it makes is the search for high.
+use mathlib.Core.Path.{◌∙◌}
+use native.Mathlib.Omega.{arith}
+use lib.ListN.{length}
+use borrow.Author.Rules.{rules}
+use Rattle.bracket.specs.CrossingLaws.{search_high}
+use Rattle.bracket.proofs.search.upper.Goals as goal
+
+-- auto overflow_sub-hundredth
+
+-- auto hundredth-goal-requires
+
+-- auto first_reaching-requires
+
+pub returns : goal.returns
+returns c =
+    c.first_reaching.ensures ∙ search_high c.args.pmf.now _ c.hundredth-goal.result c.args.percent (length c.args.pmf.now) (omega arith) (omega (arith, c.hundredth-goal.ensures))

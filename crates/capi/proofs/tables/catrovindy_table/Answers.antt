@@ -1,0 +1,48 @@
+-- `capi::catrovindy_table` meets its contract: the table's refusal, or its figures.
+use mathlib.Core.Path.{ap, ◌∙◌}
+use Rattle.rules.specs.declared.RuleList.{RuleList}
+use Rattle.table.specs.Table.{table_call, table_of}
+use Rattle.codes.specs.Codes.{slot_list}
+use Rattle.capi.specs.TableCallLaws.{call_refused, call_accepted}
+use borrow.Author.Rules.{rules}
+use Rattle.capi.proofs.tables.catrovindy_table.Goals as goal
+
+-- auto list_of-requires
+
+-- auto run_length_table-answer-requires
+
+-- auto enum_known-answer
+
+-- auto code-requires
+
+-- auto enum_known-answer-in-Accepted-1
+
+-- auto overflow_cast-figures
+
+-- auto bounds-figures-0
+
+-- auto bounds-figures-1
+
+-- auto bounds-figures-2
+
+-- auto bounds-figures-3
+
+-- auto shape_of-pmf-in-Refused
+
+-- auto shape_of-survival-in-Refused
+
+pub returns-in-Refused : goal.returns-in-Refused
+returns-in-Refused c =
+    let a = c.args in 
+    let called = c.run_length_table-answer.ensures ∙ ap (λ (l : RuleList). table_of (table_call l a.weights.now a.horizon a.pmf.now a.survival.now)) c.list_of.ensures in
+    call_refused (table_call (slot_list a.slots.now a.count) a.weights.now a.horizon a.pmf.now a.survival.now) a.figures.now called _ c.in-Refused.is c.code.ensures
+
+-- auto shape_of-pmf-in-Accepted
+
+-- auto shape_of-survival-in-Accepted
+
+pub returns-in-Accepted : goal.returns-in-Accepted
+returns-in-Accepted c =
+    let a = c.args in 
+    let called = c.?After-pmf.run-length-table.ensures ∙ ap (λ (l : RuleList). table_of (table_call l a.weights.now a.horizon a.pmf.now a.survival.now)) c.?After-run_length_table-arg.list_of.ensures in
+    call_accepted (table_call (slot_list a.slots.now a.count) a.weights.now a.horizon a.pmf.now a.survival.now) a.figures.now called c.in-Accepted.is

@@ -1,0 +1,41 @@
+-- `chain::chain_moves` meets its contract: too many states explored, or those that are explored merged.
+use mathlib.Core.Path.{◌≡◌, refl, sym, ◌∙◌}
+use native.Mathlib.Omega.{arith}
+use Rattle.rules.specs.Check.{active_rules}
+use Rattle.rules.specs.CheckLaws.{accepted}
+use Rattle.chain.specs.HeldMovesLaws.{explored_count_lem, explored_merge, merged_held}
+use borrow.Author.Rules.{rules}
+use Rattle.chain.proofs.chain_moves.Goals as goal
+
+-- auto slice_bounds-explore-end
+
+-- auto slice_bounds-explore-end-2
+
+pub explore-n-requires : goal.explore-n-requires
+explore-n-requires c =
+    let p = accepted c.args.list c.requires.list_value in
+    record { few_rules = p.1; bounds = p.2; found_room = search rules; entries_room = search rules }
+
+pub returns-then-n-gt-MAX_STATES : goal.returns-then-n-gt-MAX_STATES
+returns-then-n-gt-MAX_STATES c =
+    let n = explored_count_lem (active_rules c.args.list) c.explore-n.ensures in
+    (omega (arith, c.if-n-gt-MAX_STATES.true), refl, refl)
+
+-- auto slice_bounds-merge-end
+
+pub merge-count-requires : goal.merge-count-requires
+merge-count-requires c =
+    explored_merge (active_rules c.args.list) c.explore-n.ensures c.if-n-gt-MAX_STATES.false _ c.requires.moves_len
+
+-- auto shape_of-moves
+
+pub returns : goal.returns
+returns c =
+    let a = c.args in 
+    let x = c.explore-n.ensures in 
+    let few = c.if-n-gt-MAX_STATES.false in 
+    let n = explored_count_lem (active_rules a.list) x in
+    let made = c.merge-count.ensures in (
+      omega arith,
+      merged_held (active_rules a.list) x few a.moves.now _ made.0 made.1 (omega (arith, c.requires.moves_len)),
+    )

@@ -1,0 +1,13 @@
+-- `rounds::next_leader` meets its contract: no state before j agrees with i.
+use Prim.Native.Nat.{◌-◌}
+use mathlib.Core.Path.{sym, ◌∙◌}
+use native.Mathlib.Omega.{arith}
+use Rattle.merge.specs.AgreeLaws.{NoneBefore, none_skipped, none_more, leader_found, leader_self}
+use borrow.Author.Rules.{rules}
+use Rattle.merge.proofs.rounds.next_leader.Given as goal
+
+abbrev pub invariant-loop-j : goal.invariant-loop-j
+invariant-loop-j l = NoneBefore l.n l.moves l.leaders l.i l.j
+
+abbrev pub decreases-loop-j : goal.decreases-loop-j
+decreases-loop-j l = l.i - l.j

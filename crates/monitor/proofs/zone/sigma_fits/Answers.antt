@@ -1,0 +1,8 @@
+-- `zone::sigma_fits` meets its contract: by the two bounds of sigma.
+use borrow.Author.Rules.{rules}
+use Rattle.monitor.proofs.zone.sigma_fits.Goals as goal
+
+-- auto within-requires
+
+pub returns : goal.returns
+returns c = c.within.ensures

@@ -1,0 +1,35 @@
+-- `monitor_lines::put_total` meets its contract: three fields, LF.
+use borrow.Author.Rules.{rules}
+use native.Mathlib.Omega.{arith}
+use Rattle.write.specs.WroteLaws.{then}
+use Rattle.write.specs.FieldLaws.{field_short}
+use Rattle.monitor_lines.specs.MonitorLines.{total_line}
+use Rattle.monitor_lines.proofs.lines.put_total.Goals as goal
+
+-- auto overflow_cast-line
+
+pub put_named-a-requires : goal.put_named-a-requires
+put_named-a-requires c = omega (arith, field_short)
+
+-- auto overflow_cast-line-2
+
+pub put_field-b-requires : goal.put_field-b-requires
+put_field-b-requires c = omega (arith, field_short)
+
+-- auto overflow_cast-line-3
+
+pub put_field-e-requires : goal.put_field-e-requires
+put_field-e-requires c = omega (arith, field_short)
+
+pub put_byte-requires : goal.put_byte-requires
+put_byte-requires c = omega (arith, field_short)
+
+-- auto shape_of-out
+
+pub returns : goal.returns
+unfolding total_line
+returns c =
+    let fields = then (then c.put_named-a.ensures c.put_field-b.ensures) c.put_field-e.ensures in record {
+      wrote = then fields c.put_byte.ensures;
+      upper_bound = omega (arith, field_short);
+    }

@@ -1,0 +1,9 @@
+-- `plot::lower_mean` meets its contract: the fraction's top bits are the parts rounded down.
+use Rattle.plot.specs.MeanBoundsLaws.{down_parts}
+use borrow.Author.Rules.{rules}
+use Rattle.plot.proofs.lower_mean.Goals as goal
+
+-- auto exact_mean-requires
+
+pub returns : goal.returns
+returns c = rw down_parts c.exact_mean.ensures

@@ -1,0 +1,29 @@
+-- `rule_line` meets its contract: three numbers, or the word alone, or neither.
+use borrow.Author.Rules.{rules}
+use mathlib.Core.Path.{sym, ◌∙◌}
+use Rattle.rule_lines.specs.RuleTurnLaws.{rule_given, rule_not_begun, rule_begun}
+use Rattle.rule_lines.proofs.rule_lines.rule_line.Goals as goal
+
+-- auto line_at-line-requires
+
+-- auto enum_known-behind
+
+pub returns-in-At : goal.returns-in-At
+returns-in-At c =
+    rule_given _ _ c.?After-line_at.line_at_lem.ensures c.in-At.is
+
+-- auto enum_told-1
+
+-- auto past-requires
+
+-- auto enum_known-end
+
+-- auto enum_told-in_default-past
+
+pub returns-in_default-past : goal.returns-in_default-past
+returns-in_default-past c =
+    rule_not_begun _ _ c.?At-match-keys2.line_at_lem.ensures c.?After-past-arg.enum_told.given.1 (sym c.past.ensures ∙ c.in_default-past.is)
+
+pub returns : goal.returns
+returns c =
+    rule_begun _ _ c.?At-match-keys2.line_at_lem.ensures c.?After-past-arg.enum_told.given.1 (sym c.past.ensures ∙ c.in-At-past.is)

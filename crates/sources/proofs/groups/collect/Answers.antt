@@ -1,0 +1,33 @@
+-- `groups::collect` meets its contract: after s turns the first s states are looked at.
+use Prim.Native.Nat.{◌-◌, ◌≤◌}
+use native.Mathlib.Omega.{arith}
+use Rattle.sources.specs.Grouping.{Collected}
+use Rattle.sources.specs.SourcesLaws.{collect_start, collect_can, collect_more, collect_done}
+use borrow.Author.Rules.{rules}
+use Rattle.sources.proofs.groups.collect.Goals as goal
+
+pub loop-s-init : goal.loop-s-init
+loop-s-init c = (omega arith, search collect_start)
+
+-- auto overflow_mul-s
+
+-- auto overflow_add-s
+
+-- auto offset_bounds-moves-s
+
+-- auto bounds-moves-s
+
+pub take-e-requires : goal.take-e-requires
+take-e-requires c = search collect_can
+
+-- auto overflow_add-s-in-loop-s
+
+-- auto loop-s-smaller
+
+pub loop-s-preserved : goal.loop-s-preserved
+loop-s-preserved c = (omega arith, search collect_more)
+
+-- auto shape_of-sources
+
+pub returns : goal.returns
+returns c = search collect_done

@@ -1,0 +1,15 @@
+-- `check::weight_sum` meets its contract: the weights so far, each below 2^32.
+use mathlib.Core.Path.{◌≡◌, refl, sym, ap, ◌∙◌}
+use Prim.Native.Nat.{◌≤◌, ◌*◌, ◌-◌}
+use native.Mathlib.Omega.{arith}
+use borrow.Author.Rules.{rules}
+use Rattle.rules.specs.Bounds.{zone_count, max_number}
+use Rattle.runlength.specs.Sum.{sum, at}
+use Rattle.runlength.specs.SumLaws.{sum_zero, sum_more}
+use Rattle.table.proofs.check.weight_sum.Given as goal
+
+abbrev pub invariant-loop-z : goal.invariant-loop-z
+invariant-loop-z l = (l.z ≤ zone_count) × (l.total ≡ sum l.z (at l.weights)) × (l.total ≤ l.z * max_number)
+
+abbrev pub decreases-loop-z : goal.decreases-loop-z
+decreases-loop-z l = zone_count - l.z

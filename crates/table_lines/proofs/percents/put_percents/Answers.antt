@@ -1,0 +1,26 @@
+-- `put_percents` meets its contract: five lines, one behind the other.
+use native.Mathlib.Omega.{arith}
+use Rattle.write.specs.WroteLaws.{then}
+use Rattle.table_lines.specs.PercentLine.{percent_lines}
+use borrow.Author.Rules.{rules}
+use Rattle.table_lines.proofs.percents.put_percents.Goals as goal
+
+-- auto put_percent-a-requires
+
+-- auto put_percent-b-requires
+
+-- auto put_percent-c-requires
+
+-- auto put_percent-d-requires
+
+-- auto put_percent-requires
+
+-- auto shape_of-out
+
+pub returns : goal.returns
+unfolding percent_lines
+returns c =
+    let front = then (then c.put_percent-a.ensures.wrote c.put_percent-b.ensures.wrote) c.put_percent-c.ensures.wrote in record {
+      wrote = then (then front c.put_percent-d.ensures.wrote) c.put_percent.ensures.wrote;
+      upper_bound = omega arith;
+    }

@@ -1,0 +1,13 @@
+-- `write::put_named` meets its contract: the word, then the field.
+use borrow.Author.Rules.{rules}
+use Rattle.write.specs.WroteLaws.{then}
+use Rattle.write.proofs.field.put_named.Goals as goal
+
+-- auto put_bytes-e-requires
+
+-- auto put_field-requires
+
+-- auto shape_of-out
+
+pub returns : goal.returns
+returns c = search then
