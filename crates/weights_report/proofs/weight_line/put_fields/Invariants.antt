@@ -8,7 +8,7 @@ use Rattle.weights_report.specs.FieldsWrittenLaws.{FieldsWritten, fielded_start,
 use Rattle.weights_report.proofs.weight_line.put_fields.Given as goal
 
 abbrev pub invariant-loop-i : goal.invariant-loop-i
-invariant-loop-i l = FieldsWritten l.at l.numbers l.initial.out l.out l.e l.i
+invariant-loop-i l = FieldsWritten l.initial.out l.at l.numbers l.out l.e l.i
 
 abbrev pub decreases-loop-i : goal.decreases-loop-i
-decreases-loop-i l = length l.initial.out - l.i
+decreases-loop-i l = length l.numbers - l.i
