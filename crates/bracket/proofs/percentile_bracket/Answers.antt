@@ -8,8 +8,8 @@ use Rattle.runlength.specs.Scale.{min_horizon, max_horizon, units_per_one}
 use Rattle.runlength.specs.Chain.{cdf_of}
 use Rattle.bracket.specs.declared.BracketAnswer.TheVariants.{Accepted}
 use Rattle.bracket.specs.Limits.{min_states, min_percent, max_percent}
-use Rattle.bracket.specs.BracketLaws.{accepted_bracket}
-use Rattle.bracket.specs.RefusedLaws.{under_range, over_range, refused_length, refused_states, refused_percent, refused_total}
+use Rattle.bracket.proofs.BracketLaws.{accepted_bracket}
+use Rattle.bracket.proofs.RefusedLaws.{under_range, over_range, refused_length, refused_states, refused_percent, refused_total}
 use borrow.Author.Rules.{rules}
 use Rattle.bracket.proofs.percentile_bracket.Goals as goal
 

@@ -2,7 +2,7 @@
 use mathlib.Core.Path.{sym}
 use lib.Seq.{length-take-le}
 use Rattle.table.specs.Table.{table_call}
-use Rattle.summary.specs.SummaryLaws.{refused_summary, left_room, left_summarizable, accepted_run}
+use Rattle.summary.proofs.SummaryLaws.{refused_summary, left_room, left_summarizable, accepted_run}
 use borrow.Author.Rules.{rules}
 use Rattle.summary.proofs.table_summary.Goals as goal
 

@@ -7,11 +7,11 @@ use mir.Syntax.{w32}
 use denote.Enum.Declared.{tag_of}
 use borrow.Author.Rules.{rules}
 use borrow.Author.Tests.{not-true, not-false}
-use Rattle.rules.specs.CheckLaws.{accepted, between, is_accepted}
+use Rattle.rules.proofs.CheckLaws.{accepted, between, is_accepted}
 use Rattle.monitor.specs.Zone.{min_sigma, max_sigma}
 use Rattle.rules.specs.contracts.Checked.{the_type}
 use Rattle.monitor_report.specs.Points.{monitor_room}
-use Rattle.monitor_report.specs.MonitorReportLaws.{monitor_refused, rules_refused, sigma_refused, text_short, points_bench, points_few, points_written}
+use Rattle.monitor_report.proofs.MonitorReportLaws.{monitor_refused, rules_refused, sigma_refused, text_short, points_bench, points_few, points_written}
 use Rattle.monitor_report.proofs.monitors.monitor_report.Goals as goal
 
 -- auto monitor_text-read-requires

@@ -1,7 +1,7 @@
 -- `table_lines::put_bracket` meets its contract: the fields of each case.
 use native.Mathlib.Omega.{arith}
 use Rattle.write.specs.WroteLaws.{then}
-use Rattle.write.specs.FieldLaws.{field_short}
+use Rattle.write.proofs.FieldLaws.{field_short}
 use Rattle.table_lines.specs.PercentLine.{bracket_fields}
 use Rattle.table_lines.specs.PercentLineLaws.{same_bracket}
 use borrow.Author.Rules.{rules}

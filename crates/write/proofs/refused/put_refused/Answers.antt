@@ -2,7 +2,7 @@
 use borrow.Author.Rules.{rules}
 use native.Mathlib.Omega.{arith}
 use Rattle.write.specs.WroteLaws.{then}
-use Rattle.write.specs.FieldLaws.{field_short}
+use Rattle.write.proofs.FieldLaws.{field_short}
 use Rattle.write.specs.Refused.{refused_line}
 use Rattle.write.proofs.refused.put_refused.Goals as goal
 
