@@ -6,10 +6,6 @@ use Rattle.shift.specs.Area.{areas}
 use Rattle.shift.proofs.ShiftLaws.{Rising, limits_rise, weights_computed}
 use Rattle.shift.proofs.weights_at.Goals as goal
 
--- behind the seven areas: they rise
-rise : (c : tie.After-below7) → Rising c.before.before.before.before.before.before.before.before.before.before.before.before.before.before.args.t
-rise c = limits_rise _ (omega arith)
-
 -- auto slice_bounds-below-end
 
 -- auto overflow_sub-t
@@ -88,28 +84,28 @@ below-a2-requires c = record {
     }
 
 pub overflow_sub-result : goal.overflow_sub-result
-overflow_sub-result c = let r = rise c in omega arith
+overflow_sub-result c = let r = limits_rise c.args.t (omega arith) in omega arith
 
 pub overflow_sub-result-2 : goal.overflow_sub-result-2
-overflow_sub-result-2 c = let r = rise c in omega arith
+overflow_sub-result-2 c = let r = limits_rise c.args.t (omega arith) in omega arith
 
 pub overflow_sub-result-3 : goal.overflow_sub-result-3
-overflow_sub-result-3 c = let r = rise c in omega arith
+overflow_sub-result-3 c = let r = limits_rise c.args.t (omega arith) in omega arith
 
 pub overflow_sub-result-4 : goal.overflow_sub-result-4
-overflow_sub-result-4 c = let r = rise c in omega arith
+overflow_sub-result-4 c = let r = limits_rise c.args.t (omega arith) in omega arith
 
 pub overflow_sub-result-5 : goal.overflow_sub-result-5
-overflow_sub-result-5 c = let r = rise c in omega arith
+overflow_sub-result-5 c = let r = limits_rise c.args.t (omega arith) in omega arith
 
 pub overflow_sub-result-6 : goal.overflow_sub-result-6
-overflow_sub-result-6 c = let r = rise c in omega arith
+overflow_sub-result-6 c = let r = limits_rise c.args.t (omega arith) in omega arith
 
 pub overflow_sub-result-7 : goal.overflow_sub-result-7
-overflow_sub-result-7 c = let r = rise c in omega arith
+overflow_sub-result-7 c = let r = limits_rise c.args.t (omega arith) in omega arith
 
 pub overflow_sub-result-8 : goal.overflow_sub-result-8
-overflow_sub-result-8 c = let r = rise c in omega arith
+overflow_sub-result-8 c = let r = limits_rise c.args.t (omega arith) in omega arith
 
 pub returns : goal.returns
 returns c =

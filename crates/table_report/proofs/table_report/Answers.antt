@@ -36,7 +36,12 @@ put_table-n-requires c =
     let call = table_call t.list t.weights c.report_horizon-horizon.result blank blank in
     let run = c.table_summary-answer.ensures in 
     let accepted = c.in-Accepted.is in 
-    (search rules, (omega (arith, c.report_horizon-horizon.ensures, horizon_small t.horizon), (rows_listed call run accepted, rows_total call run accepted)))
+    record {
+      table_room_in_bounds = search rules;
+      horizon_le_max_rows = omega (arith, c.report_horizon-horizon.ensures, horizon_small t.horizon);
+      horizon_in_bounds = rows_listed call run accepted;
+      horizon_bound = rows_total call run accepted;
+    }
 
 pub returns-in-Refused : goal.returns-in-Refused
 unfolding blank

@@ -24,4 +24,4 @@ use Rattle.call_arrays.proofs.batches.write_batch.Goals as goal
 -- auto bounds-answer-3
 
 pub returns : goal.returns
-returns c = (refl, (refl, rw (← c.last_mask.ensures)))
+returns c = record { state_after = refl; points_after = refl; answer_after = rw (← c.last_mask.ensures) }

@@ -30,4 +30,4 @@ returns c =
     let is = same_batch c.list_of.ensures (to_z-of_z c.ranges.centre) (monitor_of a.state.now a.points.now) a.sigma a.readings.now c.take_readings-found.result c.take_readings-found.ensures in
     same_call is (
     batch_taken c.take_readings-found.result a.state.now a.points.now a.answer.now _ c.batch_code-refused.ensures c.if-refused-ne0.false _ _ _
-    c.write_batch.ensures.state_after c.write_batch.ensures.points_after.0 c.write_batch.ensures.points_after.1)
+    c.write_batch.ensures.state_after c.write_batch.ensures.points_after c.write_batch.ensures.answer_after)

@@ -51,7 +51,13 @@ put_points-n-requires c =
     let bench = points_bench a.text.now a.out.now c.monitor_text-read.result c.monitor_text-read.ensures c.if-refusal-ne0.false ok fits in
     let few = points_few a.text.now a.out.now c.monitor_text-read.result c.monitor_text-read.ensures c.if-refusal-ne0.false ok fits in
     let size : length a.out.now ≡ monitor_room = search rules in
-    ((b.1, b.2), (between min_sigma max_sigma c.monitor_text-read.result.sigma fits, (short, (bench, omega (arith, few, short, size)))))
+    record {
+      len_le_max_rules = (b.1, b.2);
+      min_sigma_le_sigma = between min_sigma max_sigma c.monitor_text-read.result.sigma fits;
+      text_len_bound = short;
+      on_bench = bench;
+      node_count_in_bounds = omega (arith, few, short, size);
+    }
 
 pub returns : goal.returns
 returns c =

@@ -18,7 +18,7 @@ use Rattle.monitor_report.proofs.points.put_points.Goals as goal
 -- auto fresh_node-nodes-requires
 
 pub loop-next-init : goal.loop-next-init
-loop-next-init c = written_start c.requires.min_sigma_le_sigma.1.1.0 _ (slots_fresh node_count c.fresh_node-nodes.result c.fresh_node-nodes.ensures) refl
+loop-next-init c = written_start c.requires.on_bench _ (slots_fresh node_count c.fresh_node-nodes.result c.fresh_node-nodes.ensures) refl
 
 -- auto line_at-read-requires
 
@@ -29,7 +29,7 @@ loop-next-init c = written_start c.requires.min_sigma_le_sigma.1.1.0 _ (slots_fr
 pub put_totals-requires : goal.put_totals-requires
 put_totals-requires c =
     let u = c.loop-next.invariant in 
-    omega (arith, done_few u, u.room, u.size, c.requires.min_sigma_le_sigma.1.1.1)
+    omega (arith, done_few u, u.room, u.size, c.requires.node_count_in_bounds)
 
 -- auto shape_of-out-in_default
 
@@ -70,13 +70,18 @@ chart_point-point-requires c =
     let chart = c.args.chart in 
     let small = zone_below (to_z w32 (of_z w32 c.signed_value.result)) (to_z w32 (of_z w32 chart.centre)) chart.sigma c.zone_at-zone.ensures in
     let below = node_below u _ _ _ found in
-    ((c.requires.len_le_max_rules.0, c.requires.len_le_max_rules.1, small), node_ready u c.requires.len_le_max_rules.1 c.requires.min_sigma_le_sigma.1.0 _ (omega (arith, below, small)))
+    let ready = node_ready u c.requires.len_le_max_rules.1 c.requires.text_len_bound _ (omega (arith, below, small)) in
+    record {
+      len_le_max_rules = (c.requires.len_le_max_rules.0, c.requires.len_le_max_rules.1, small);
+      count_lt_max_number = ready.0;
+      state_value = ready.1;
+    }
 
 pub put_point-end-requires : goal.put_point-end-requires
 put_point-end-requires c =
     let u = c.loop-next.invariant in 
     let found = point_seen _ _ c.line_at-read.ensures c.in-At.is in
-    omega (arith, points_left u _ _ _ found, u.room, u.size, c.requires.min_sigma_le_sigma.1.1.1)
+    omega (arith, points_left u _ _ _ found, u.room, u.size, c.requires.node_count_in_bounds)
 
 pub overflow_cast-nodes : goal.overflow_cast-nodes
 overflow_cast-nodes c =
@@ -114,5 +119,5 @@ loop-next-preserved c =
     let found = point_seen _ _ c.line_at-read.ensures c.in-At.is in
     let chart = c.args.chart in 
     let centre : to_z w32 (of_z w32 chart.centre) ≡ chart.centre = to_z-of_z {w = w32} {z = chart.centre} (record { sfits = c.struct_told-1.given.0.1 }) in
-    let zone = c.zone_at-zone.ensures ∙ zone_given (to_z-of_z (search rules) ∙ c.signed_value.ensures) centre chart.sigma in
+    let zone = c.zone_at-zone.ensures ∙ zone_given (to_z-of_z {w = w32} (search rules) ∙ c.signed_value.ensures) centre chart.sigma in
     written_more u _ _ _ found _ zone _ c.chart_point-point.ensures _ c.put_point-end.ensures.wrote c.put_point-end.ensures.upper_bound

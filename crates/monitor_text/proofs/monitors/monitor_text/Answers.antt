@@ -3,6 +3,7 @@ use borrow.Author.Rules.{rules}
 use native.Mathlib.Omega.{arith}
 use mathlib.Core.Path.{◌∙◌}
 use mir.Facts.{to_z-of_z}
+use mir.Syntax.{w32}
 use Rattle.text.specs.RunLaws.{run_few}
 use Rattle.rule_lines.specs.RuleTurnLaws.{read_few}
 use Rattle.monitor_text.specs.MonitorTextLaws.{too_long_lem, other_first, bad_rule, goes_on, off_bench, whole}
@@ -65,4 +66,4 @@ returns-then-good-count c =
 
 pub returns : goal.returns
 returns c =
-    whole _ (omega (arith, c.if-text-gt-MAX_TEXT.false)) c.line_at-first.ensures c.in-At.is c.read_rules-read.ensures c.run_at-run.ensures (to_z-of_z (search rules) ∙ c.signed_value.ensures) c.if-end-text.false c.if-good-count.false
+    whole _ (omega (arith, c.if-text-gt-MAX_TEXT.false)) c.line_at-first.ensures c.in-At.is c.read_rules-read.ensures c.run_at-run.ensures (to_z-of_z {w = w32} (search rules) ∙ c.signed_value.ensures) c.if-end-text.false c.if-good-count.false

@@ -35,7 +35,7 @@ overflow_add-result-in_default-found-2 c = omega (arith, holds_few c.loop-k.inva
 
 pub returns-in_default-found : goal.returns-in_default-found
 returns-in_default-found c =
-    let bad = else_unreadable _ c.in_default.in_default-own.keys2 c.in_default-found.in_default-found-own.keys2 in
+    let bad = else_unreadable c.rule_line-found.result c.in_default.not-Absent c.in_default-found.not-Rule in
     let a = rule_unreadable _ _ (sym c.rule_line-found.ensures ∙ bad) in
     holds_refused c.loop-k.invariant _ a.0 a.1.0 a.1.1
 

@@ -37,7 +37,7 @@ is_signal_lem (Signal mask) h = (mask, refl)
 -- auto index_of-index-requires
 
 pub overflow_cast-moves-in-Quiet : goal.overflow_cast-moves-in-Quiet
-overflow_cast-moves-in-Quiet c = omega (arith, index_small _ _ _ (index-of-requires ?PLACE:After-known_told c.index_of-index.lifetimes) c.index_of-index.ensures)
+overflow_cast-moves-in-Quiet c = omega (arith, index_small _ _ _ (omega arith) c.index_of-index.ensures)
 
 -- auto offset_bounds-moves-k-in-Quiet
 

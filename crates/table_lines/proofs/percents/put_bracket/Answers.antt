@@ -13,17 +13,15 @@ use Rattle.table_lines.proofs.percents.put_bracket.Goals as goal
 
 pub put_named-requires : goal.put_named-requires
 put_named-requires c =
-    let f = c.found-1.given in 
-    omega (arith, field_short {n = f.0.0} (omega arith))
+    omega (arith, field_short {n = c.in-At.n} (omega arith))
 
 -- auto shape_of-out-in-At
 
 pub returns-in-At : goal.returns-in-At
 unfolding bracket_fields
-returns-in-At c =
-    let f = c.found-1.given in record {
-      wrote = same_bracket f.1 c.put_named.ensures;
-      upper_bound = omega (arith, field_short {n = f.0.0} (omega arith));
+returns-in-At c = record {
+      wrote = same_bracket c.in-At.is c.put_named.ensures;
+      upper_bound = omega (arith, field_short {n = c.in-At.n} (omega arith));
     }
 
 -- auto enum_known-found-in-Between-1
@@ -32,25 +30,22 @@ returns-in-At c =
 
 pub put_named-e-requires : goal.put_named-e-requires
 put_named-e-requires c =
-    let f = c.found-in-Between-1.given in 
-    omega (arith, field_short {n = f.0.0} (omega arith))
+    omega (arith, field_short {n = c.in-Between.low} (omega arith))
 
 -- auto overflow_cast-high
 
 pub put_field-requires : goal.put_field-requires
 put_field-requires c =
-    let f = c.found-in-Between-1.given in 
-    omega (arith, field_short {n = f.0.0} (omega arith), field_short {n = f.0.1.0} (omega arith))
+    omega (arith, field_short {n = c.in-Between.low} (omega arith), field_short {n = c.in-Between.high} (omega arith))
 
 -- auto shape_of-out-in-Between
 
 pub returns-in-Between : goal.returns-in-Between
 unfolding bracket_fields
 returns-in-Between c =
-    let f = c.found-in-Between-1.given in 
-    let low = field_short {n = f.0.0} (omega arith) in
-    let high = field_short {n = f.0.1.0} (omega arith) in record {
-      wrote = same_bracket f.1 (then c.put_named-e.ensures c.put_field.ensures);
+    let low = field_short {n = c.in-Between.low} (omega arith) in
+    let high = field_short {n = c.in-Between.high} (omega arith) in record {
+      wrote = same_bracket c.in-Between.is (then c.put_named-e.ensures c.put_field.ensures);
       upper_bound = omega arith;
     }
 
@@ -60,17 +55,15 @@ returns-in-Between c =
 
 pub put_named-requires-in-Open : goal.put_named-requires-in-Open
 put_named-requires-in-Open c =
-    let f = c.found-in-Open-1.given in 
-    omega (arith, field_short {n = f.0.0} (omega arith))
+    omega (arith, field_short {n = c.in-Open.low} (omega arith))
 
 -- auto shape_of-out-in-Open
 
 pub returns-in-Open : goal.returns-in-Open
 unfolding bracket_fields
-returns-in-Open c =
-    let f = c.found-in-Open-1.given in record {
-      wrote = same_bracket f.1 c.put_named-in-Open.ensures;
-      upper_bound = omega (arith, field_short {n = f.0.0} (omega arith));
+returns-in-Open c = record {
+      wrote = same_bracket c.in-Open.is c.put_named-in-Open.ensures;
+      upper_bound = omega (arith, field_short {n = c.in-Open.low} (omega arith));
     }
 
 -- auto enum_known-found-in-Beyond-1
@@ -79,15 +72,13 @@ returns-in-Open c =
 
 pub put_named-requires-in-Beyond : goal.put_named-requires-in-Beyond
 put_named-requires-in-Beyond c =
-    let f = c.found-in-Beyond-1.given in 
-    omega (arith, field_short {n = f.0.0} (omega arith))
+    omega (arith, field_short {n = c.in-Beyond.h} (omega arith))
 
 -- auto shape_of-out-in-Beyond
 
 pub returns-in-Beyond : goal.returns-in-Beyond
 unfolding bracket_fields
-returns-in-Beyond c =
-    let f = c.found-in-Beyond-1.given in record {
-      wrote = same_bracket f.1 c.put_named-in-Beyond.ensures;
-      upper_bound = omega (arith, field_short {n = f.0.0} (omega arith));
+returns-in-Beyond c = record {
+      wrote = same_bracket c.in-Beyond.is c.put_named-in-Beyond.ensures;
+      upper_bound = omega (arith, field_short {n = c.in-Beyond.h} (omega arith));
     }

@@ -3,6 +3,7 @@ use borrow.Author.Rules.{rules}
 use native.Mathlib.Omega.{arith}
 use mathlib.Core.Path.{◌∙◌}
 use mir.Facts.{to_z-of_z}
+use mir.Syntax.{w32}
 use Rattle.weights_report.specs.ShiftTextLaws.{too_long_lem, other_first, goes_on, whole}
 use Rattle.weights_report.proofs.shifts.shift_text.Goals as goal
 
@@ -36,4 +37,4 @@ returns-then-next-text c =
 
 pub returns : goal.returns
 returns c =
-    whole _ (omega arith) c.line_at-first.ensures c.in-At.is (to_z-of_z (search rules) ∙ c.signed_value.ensures) (omega arith)
+    whole _ (omega arith) c.line_at-first.ensures c.in-At.is (to_z-of_z {w = w32} (search rules) ∙ c.signed_value.ensures) (omega arith)

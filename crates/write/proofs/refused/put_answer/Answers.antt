@@ -11,4 +11,4 @@ returns-in-Written c = stands_written _ c.in-Written.is
 
 pub returns-in-Refused : goal.returns-in-Refused
 returns-in-Refused c =
-    stands_refused c.in-Refused.is c.XXAfter-put_refused.Put-refused.ensures.0
+    stands_refused c.in-Refused.is c.put_refused.ensures.wrote
