@@ -1,4 +1,6 @@
 // The chain of a rule list: its states explored and merged, and their moves.
+#![tactic(auto)]
+
 ghost use Rattle.std.specs.Prelude.{◌≡◌, ◌*◌, length};
 ghost use Rattle.rules.specs.Bounds.{zone_count, max_states};
 ghost use Rattle.rules.specs.Check.{active_rules, check_of};

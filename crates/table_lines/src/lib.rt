@@ -1,5 +1,7 @@
 // The table program's lines, written into a lent buffer at an offset.
 // For the crates of this repository, which see to the room: hence each `requires`.
+#![tactic(auto)]
+
 mod percents;
 mod rooms;
 mod rows;

@@ -1,5 +1,4 @@
 -- `take_accepted` meets its contract. The invariant: what the readings left give is what the whole gives.
--- the point that the loop's body takes: the reading comes out of the slice as it stands there
 use mathlib.Core.Path.{◌≡◌, sym, ap, ◌∙◌}
 use mathlib.Core.List.{List}
 use Prim.Native.Nat.{ℕ, ◌≤◌, ◌-◌}

@@ -1,5 +1,4 @@
 -- `shift::shift_weights` meets its contract. A signed number is read back from its bits, so each fact is first taken back to the shift.
--- ---- the two tests
 use native.Mathlib.Omega.{arith}
 use Prim.Native.Nat.{ℕ, ◌*◌, ◌≤◌, ◌<◌}
 use mathlib.Core.Path.{◌≡◌, sym, ap, ◌∙◌, subst}
@@ -17,6 +16,7 @@ use Rattle.shift.proofs.ShiftLaws.{in_bounds}
 use Rattle.shift.proofs.ShiftedWeights.{shift_accepted, shift_refused}
 use Rattle.shift.proofs.shift_weights.Goals as goal
 
+-- ---- the two tests
 no_test : {A : Type 0} → false ≡ true → A
 no_test e = let z : ◌≡◌ {A = ℕ} 0 1 = ap (λ b. cond b 1 0) e in absurd (omega arith)
 
@@ -72,12 +72,12 @@ within s f low high = near s (test_back s f (λ (z : ℤ). lt_z z (negsuc 149)) 
 
 pub returns-then-shift-lt-MIN_SHIFT : goal.returns-then-shift-lt-MIN_SHIFT
 returns-then-shift-lt-MIN_SHIFT c =
-    let s = c.args.shift in 
+    let s = c.args.shift in
     sym (shift_refused s (far_below s (test_back s c.ranges.shift (λ (z : ℤ). lt_z z (negsuc 149)) true c.if-shift-lt-MIN_SHIFT.true)))
 
 pub returns-then-shift-gt-MAX_SHIFT : goal.returns-then-shift-gt-MAX_SHIFT
 returns-then-shift-gt-MAX_SHIFT c =
-    let s = c.args.shift in 
+    let s = c.args.shift in
     sym (shift_refused s (far_above s (test_back s c.ranges.shift (λ (z : ℤ). lt_z (pos 150) z) true c.if-shift-gt-MAX_SHIFT.true)))
 
 pub overflow_add-shift : goal.overflow_add-shift
@@ -88,20 +88,20 @@ overflow_add-shift c =
 
 pub overflow_cast-shift : goal.overflow_cast-shift
 overflow_cast-shift c =
-    let s = c.args.shift in 
-    let f = c.ranges.shift in 
+    let s = c.args.shift in
+    let f = c.ranges.shift in
     subst (λ (z : ℤ). T (non_neg z) × Fits w64 (nat_abs z)) (sym (raised_back s f (within s f c.if-shift-lt-MIN_SHIFT.false c.if-shift-gt-MAX_SHIFT.false))) (tt, record { fits = omega (arith, t_most s f (within s f c.if-shift-lt-MIN_SHIFT.false c.if-shift-gt-MAX_SHIFT.false)) })
 
 pub weights_at-requires : goal.weights_at-requires
 weights_at-requires c =
-    let s = c.args.shift in 
-    let f = c.ranges.shift in 
+    let s = c.args.shift in
+    let f = c.ranges.shift in
     subst (λ (z : ℤ). nat_abs z ≤ 2 * max_shift) (sym (raised_back s f (within s f c.if-shift-lt-MIN_SHIFT.false c.if-shift-gt-MAX_SHIFT.false))) (t_most s f (within s f c.if-shift-lt-MIN_SHIFT.false c.if-shift-gt-MAX_SHIFT.false))
 
 pub returns : goal.returns
 returns c =
-    let s = c.args.shift in 
-    let f = c.ranges.shift in 
-    let w = c.weights_at.result in 
+    let s = c.args.shift in
+    let f = c.ranges.shift in
+    let w = c.weights_at.result in
     let h = subst (λ (z : ℤ). w ≡ weights_of (sub_ℕ (nat_abs z) max_shift)) (raised_back s f (within s f c.if-shift-lt-MIN_SHIFT.false c.if-shift-gt-MAX_SHIFT.false)) c.weights_at.ensures in
     ap Accepted (h ∙ sym (ap weights_of (t_is s f (within s f c.if-shift-lt-MIN_SHIFT.false c.if-shift-gt-MAX_SHIFT.false)))) ∙ sym (shift_accepted s (within s f c.if-shift-lt-MIN_SHIFT.false c.if-shift-gt-MAX_SHIFT.false))

@@ -23,19 +23,11 @@ module _ {a b : List ℕ} {i r : ℕ} {p : PointLine} {node n period : ℕ} wher
   unfolding point_bytes
   wrote_signal e w = rw e w
 
--- auto enum_known-line
-
--- auto overflow_cast-node
-
 pub put_named-a-requires : goal.put_named-a-requires
 put_named-a-requires c = omega (arith, field_short {n = c.in-Quiet.node} (omega arith), field_short {n = c.in-Quiet.count} (omega arith), field_short {n = c.in-Quiet.period} (omega arith))
 
--- auto overflow_cast-count
-
 pub put_field-b-requires : goal.put_field-b-requires
 put_field-b-requires c = omega (arith, field_short {n = c.in-Quiet.node} (omega arith), field_short {n = c.in-Quiet.count} (omega arith), field_short {n = c.in-Quiet.period} (omega arith))
-
--- auto overflow_cast-period
 
 pub put_field-e-requires : goal.put_field-e-requires
 put_field-e-requires c =
@@ -45,25 +37,15 @@ pub put_byte-requires : goal.put_byte-requires
 put_byte-requires c =
     omega (arith, field_short {n = c.in-Quiet.node} (omega arith), field_short {n = c.in-Quiet.count} (omega arith), field_short {n = c.in-Quiet.period} (omega arith))
 
--- auto enum_known-line-in-Signal-1
-
--- auto overflow_cast-node-in-Signal
-
 pub put_named-a-requires-in-Signal : goal.put_named-a-requires-in-Signal
 put_named-a-requires-in-Signal c = omega (arith, field_short {n = c.in-Signal.node} (omega arith), field_short {n = c.in-Signal.count} (omega arith), field_short {n = c.in-Signal.mask} (omega arith), field_short {n = c.in-Signal.period} (omega arith))
-
--- auto overflow_cast-count-in-Signal
 
 pub put_field-b-requires-in-Signal : goal.put_field-b-requires-in-Signal
 put_field-b-requires-in-Signal c = omega (arith, field_short {n = c.in-Signal.node} (omega arith), field_short {n = c.in-Signal.count} (omega arith), field_short {n = c.in-Signal.mask} (omega arith), field_short {n = c.in-Signal.period} (omega arith))
 
--- auto overflow_cast-mask
-
 pub put_field-e-requires-in-Signal : goal.put_field-e-requires-in-Signal
 put_field-e-requires-in-Signal c =
     omega (arith, field_short {n = c.in-Signal.node} (omega arith), field_short {n = c.in-Signal.count} (omega arith), field_short {n = c.in-Signal.mask} (omega arith), field_short {n = c.in-Signal.period} (omega arith))
-
--- auto overflow_cast-period-in-Signal
 
 pub put_field-f-requires : goal.put_field-f-requires
 put_field-f-requires c =
@@ -73,8 +55,6 @@ pub put_byte-requires-in-Signal : goal.put_byte-requires-in-Signal
 put_byte-requires-in-Signal c =
     omega (arith, field_short {n = c.in-Signal.node} (omega arith), field_short {n = c.in-Signal.count} (omega arith), field_short {n = c.in-Signal.mask} (omega arith), field_short {n = c.in-Signal.period} (omega arith))
 
--- auto shape_of-out-in-Quiet
-
 pub returns-in-Quiet : goal.returns-in-Quiet
 unfolding quiet_line
 returns-in-Quiet c =
@@ -83,8 +63,6 @@ returns-in-Quiet c =
       wrote = wrote_quiet c.in-Quiet.is line;
       upper_bound = omega (arith, field_short {n = c.in-Quiet.node} (omega arith), field_short {n = c.in-Quiet.count} (omega arith), field_short {n = c.in-Quiet.period} (omega arith));
     }
-
--- auto shape_of-out-in-Signal
 
 pub returns-in-Signal : goal.returns-in-Signal
 unfolding signal_line

@@ -8,14 +8,8 @@ use Rattle.rule_lines.specs.RuleTurnLaws.{HoldsRules, holds_start, holds_few, ru
 use Rattle.rule_lines.proofs.Else.{else_unreadable}
 use Rattle.rule_lines.proofs.rule_lines.read_rules.Goals as goal
 
--- auto no_rules-list-requires
-
 pub loop-k-init : goal.loop-k-init
 loop-k-init c = holds_start _ _ _ c.no_rules-list.ensures
-
--- auto rule_line-found-requires
-
--- auto enum_told-1
 
 pub overflow_add-result : goal.overflow_add-result
 overflow_add-result c = omega (arith, holds_few c.loop-k.invariant)
@@ -24,8 +18,6 @@ pub returns-in-Absent : goal.returns-in-Absent
 returns-in-Absent c =
     let a = rule_absent _ _ (sym c.rule_line-found.ensures ∙ c.in-Absent.is) in
     holds_done c.loop-k.invariant _ a.0 a.1
-
--- auto enum_known-found
 
 pub overflow_add-result-in_default-found : goal.overflow_add-result-in_default-found
 overflow_add-result-in_default-found c = omega (arith, holds_few c.loop-k.invariant)
@@ -38,8 +30,6 @@ returns-in_default-found c =
     let bad = else_unreadable c.rule_line-found.result c.in_default.not-Absent c.in_default-found.not-Rule in
     let a = rule_unreadable _ _ (sym c.rule_line-found.ensures ∙ bad) in
     holds_refused c.loop-k.invariant _ a.0 a.1.0 a.1.1
-
--- auto new-requires
 
 pub push-list-requires : goal.push-list-requires
 push-list-requires c = omega (arith, holds_few c.loop-k.invariant)

@@ -7,15 +7,9 @@ use Rattle.table_lines.specs.PercentLineLaws.{same_bracket}
 use borrow.Author.Rules.{rules}
 use Rattle.table_lines.proofs.percents.put_bracket.Goals as goal
 
--- auto enum_known-found
-
--- auto overflow_cast-n
-
 pub put_named-requires : goal.put_named-requires
 put_named-requires c =
     omega (arith, field_short {n = c.in-At.n} (omega arith))
-
--- auto shape_of-out-in-At
 
 pub returns-in-At : goal.returns-in-At
 unfolding bracket_fields
@@ -24,21 +18,13 @@ returns-in-At c = record {
       upper_bound = omega (arith, field_short {n = c.in-At.n} (omega arith));
     }
 
--- auto enum_known-found-in-Between-1
-
--- auto overflow_cast-low
-
 pub put_named-e-requires : goal.put_named-e-requires
 put_named-e-requires c =
     omega (arith, field_short {n = c.in-Between.low} (omega arith))
 
--- auto overflow_cast-high
-
 pub put_field-requires : goal.put_field-requires
 put_field-requires c =
     omega (arith, field_short {n = c.in-Between.low} (omega arith), field_short {n = c.in-Between.high} (omega arith))
-
--- auto shape_of-out-in-Between
 
 pub returns-in-Between : goal.returns-in-Between
 unfolding bracket_fields
@@ -49,15 +35,9 @@ returns-in-Between c =
       upper_bound = omega arith;
     }
 
--- auto enum_known-found-in-Open-1
-
--- auto overflow_cast-low-in-Open
-
 pub put_named-requires-in-Open : goal.put_named-requires-in-Open
 put_named-requires-in-Open c =
     omega (arith, field_short {n = c.in-Open.low} (omega arith))
-
--- auto shape_of-out-in-Open
 
 pub returns-in-Open : goal.returns-in-Open
 unfolding bracket_fields
@@ -66,15 +46,9 @@ returns-in-Open c = record {
       upper_bound = omega (arith, field_short {n = c.in-Open.low} (omega arith));
     }
 
--- auto enum_known-found-in-Beyond-1
-
--- auto overflow_cast-h
-
 pub put_named-requires-in-Beyond : goal.put_named-requires-in-Beyond
 put_named-requires-in-Beyond c =
     omega (arith, field_short {n = c.in-Beyond.h} (omega arith))
-
--- auto shape_of-out-in-Beyond
 
 pub returns-in-Beyond : goal.returns-in-Beyond
 unfolding bracket_fields

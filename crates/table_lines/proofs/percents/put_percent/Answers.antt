@@ -15,8 +15,6 @@ put_bracket-b-requires c = omega (arith, field_short)
 pub put_byte-requires : goal.put_byte-requires
 put_byte-requires c = omega (arith, field_short)
 
--- auto shape_of-out
-
 pub returns : goal.returns
 unfolding percent_line
 returns c = record {

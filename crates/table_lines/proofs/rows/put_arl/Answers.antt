@@ -18,8 +18,6 @@ put_field-c-requires c = omega (arith, field_room_lem)
 pub put_byte-requires : goal.put_byte-requires
 put_byte-requires c = omega (arith, field_room_lem)
 
--- auto shape_of-out
-
 pub returns : goal.returns
 unfolding arl_line
 returns c =

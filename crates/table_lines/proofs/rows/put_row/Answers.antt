@@ -27,8 +27,6 @@ pub put_byte-requires : goal.put_byte-requires
 unfolding field
 put_byte-requires c = omega (arith, field_room_lem)
 
--- auto shape_of-out
-
 pub returns : goal.returns
 unfolding row_line field
 returns c =

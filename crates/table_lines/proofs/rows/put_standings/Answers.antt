@@ -12,8 +12,6 @@ put_named-e-requires c = omega (arith, field_short)
 pub put_byte-requires : goal.put_byte-requires
 put_byte-requires c = omega (arith, field_short)
 
--- auto shape_of-out
-
 pub returns : goal.returns
 unfolding standings_line
 returns c = record {

@@ -4,8 +4,6 @@ use borrow.Author.Rules.{rules}
 use Rattle.write.proofs.PrintedLaws.{stands_written, stands_refused}
 use Rattle.write.proofs.refused.put_answer.Goals as goal
 
--- auto put_refused-requires
-
 pub returns-in-Written : goal.returns-in-Written
 returns-in-Written c = stands_written _ c.in-Written.is
 
