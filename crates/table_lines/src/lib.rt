@@ -4,10 +4,10 @@
 
 mod percents;
 mod rooms;
-mod rows;
+mod row_lines;
 mod tables;
 
 pub use percents::put_percent;
 pub use rooms::{MAX_ROWS, TABLE_ROOM};
-pub use rows::put_standings;
+pub use row_lines::put_standings;
 pub use tables::put_table;

@@ -14,9 +14,9 @@ put_named-requires c =
 pub returns-in-At : goal.returns-in-At
 unfolding bracket_fields
 returns-in-At c = record {
-      wrote = same_bracket c.in-At.is c.put_named.ensures;
-      upper_bound = omega (arith, field_short {n = c.in-At.n} (omega arith));
-    }
+  wrote = same_bracket c.in-At.is c.put_named.ensures;
+  upper_bound = omega (arith, field_short {n = c.in-At.n} (omega arith));
+}
 
 pub put_named-e-requires : goal.put_named-e-requires
 put_named-e-requires c =
@@ -42,9 +42,9 @@ put_named-requires-in-Open c =
 pub returns-in-Open : goal.returns-in-Open
 unfolding bracket_fields
 returns-in-Open c = record {
-      wrote = same_bracket c.in-Open.is c.put_named-in-Open.ensures;
-      upper_bound = omega (arith, field_short {n = c.in-Open.low} (omega arith));
-    }
+  wrote = same_bracket c.in-Open.is c.put_named-in-Open.ensures;
+  upper_bound = omega (arith, field_short {n = c.in-Open.low} (omega arith));
+}
 
 pub put_named-requires-in-Beyond : goal.put_named-requires-in-Beyond
 put_named-requires-in-Beyond c =
@@ -53,6 +53,6 @@ put_named-requires-in-Beyond c =
 pub returns-in-Beyond : goal.returns-in-Beyond
 unfolding bracket_fields
 returns-in-Beyond c = record {
-      wrote = same_bracket c.in-Beyond.is c.put_named-in-Beyond.ensures;
-      upper_bound = omega (arith, field_short {n = c.in-Beyond.h} (omega arith));
-    }
+  wrote = same_bracket c.in-Beyond.is c.put_named-in-Beyond.ensures;
+  upper_bound = omega (arith, field_short {n = c.in-Beyond.h} (omega arith));
+}

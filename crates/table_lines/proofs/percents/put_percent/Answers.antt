@@ -18,6 +18,6 @@ put_byte-requires c = omega (arith, field_short)
 pub returns : goal.returns
 unfolding percent_line
 returns c = record {
-      wrote = search then;
-      upper_bound = omega (arith, field_short);
-    }
+  wrote = search then;
+  upper_bound = omega (arith, field_short);
+}

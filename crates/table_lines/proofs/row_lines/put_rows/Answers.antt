@@ -4,7 +4,7 @@ use Prim.Native.Nat.{◌-◌}
 use native.Mathlib.Omega.{arith}
 use Rattle.table_lines.specs.RowsWritten.{RowsWritten}
 use Rattle.table_lines.specs.RowLineLaws.{rowed_start, rowed_sum, rowed_more, rowed_done}
-use Rattle.table_lines.proofs.rows.put_rows.Goals as goal
+use Rattle.table_lines.proofs.row_lines.put_rows.Goals as goal
 
 pub loop-i-init : goal.loop-i-init
 loop-i-init c = rowed_start (omega arith)
@@ -19,6 +19,6 @@ loop-i-preserved c = search rowed_more
 
 pub returns : goal.returns
 returns c = record {
-      wrote = search rowed_done;
-      upper_bound = omega arith;
-    }
+  wrote = search rowed_done;
+  upper_bound = omega arith;
+}

@@ -5,7 +5,7 @@ use Rattle.write.specs.WroteLaws.{then}
 use Rattle.write.specs.Field.{field}
 use Rattle.write.proofs.FieldLaws.{field_room_lem}
 use Rattle.table_lines.specs.RowLine.{row_line}
-use Rattle.table_lines.proofs.rows.put_row.Goals as goal
+use Rattle.table_lines.proofs.row_lines.put_row.Goals as goal
 
 pub put_number-a-requires : goal.put_number-a-requires
 unfolding field
