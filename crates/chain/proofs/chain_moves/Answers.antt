@@ -31,9 +31,9 @@ merge-count-requires c =
 
 pub returns : goal.returns
 returns c =
-    let a = c.args in 
-    let x = c.explore-n.ensures in 
-    let few = c.if-n-gt-MAX_STATES.false in 
+    let a = c.args in
+    let x = c.explore-n.ensures in
+    let few = c.if-n-gt-MAX_STATES.false in
     let n = explored_count_lem (active_rules a.list) x in
     let merged = c.merge-count.ensures in
     record {

@@ -15,9 +15,9 @@ use Rattle.table.proofs.check.check_chain.Goals as goal
 
 pub explored_chain-requires : goal.explored_chain-requires
 explored_chain-requires c = record {
-      list_value = is_accepted (tag_of the_type) (λ x. refl) c.check-checked.ensures c.in-Accepted.in-Accepted-own.keys2;
-      moves_len = c.requires;
-    }
+  list_value = is_accepted (tag_of the_type) (λ x. refl) c.check-checked.ensures c.in-Accepted.in-Accepted-own.keys2;
+  moves_len = c.requires;
+}
 
 pub returns-in-Refused : goal.returns-in-Refused
 returns-in-Refused c =

@@ -38,9 +38,9 @@ returns-then-horizon-gt-MAX_HORIZON c =
 
 pub chain_moves-requires : goal.chain_moves-requires
 chain_moves-requires c = record {
-      list_value = c.requires.list_value;
-      moves_len = c.requires.moves_len;
-    }
+  list_value = c.requires.list_value;
+  moves_len = c.requires.moves_len;
+}
 
 -- auto shape_of-moves
 
