@@ -17,7 +17,7 @@ case "$#,${1:-}" in
 esac
 
 made=target/staticlib
-sum=$(find crates.txt crates -type f -print0 | LC_ALL=C sort -z | xargs -0 sha256sum | sha256sum)
+sum=$(find crates.txt crates -path 'crates/*/out' -prune -o -type f -print0 | LC_ALL=C sort -z | xargs -0 sha256sum | sha256sum)
 why=
 if ! [ -f "$made/libcapi.a" ]; then
   why="is missing"
@@ -33,10 +33,11 @@ if [ "$check" = 1 ]; then
   exit 1
 fi
 
-mkdir -p target
+mkdir -p "$made"
 rm -f "$made/sum"
-if ! rt staticlib capi >target/staticlib.log 2>&1; then
+if ! (cd crates/capi_c && rt lib) >target/staticlib.log 2>&1; then
   cat target/staticlib.log
   exit 1
 fi
+cp crates/capi_c/out/libcapi_c.a "$made/libcapi.a"
 printf '%s\n' "$sum" >"$made/sum"
