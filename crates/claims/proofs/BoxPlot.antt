@@ -1,9 +1,8 @@
 -- CLAIMS: the plot record, of what the box plot operation's contract is an equation with: nothing is asked but an accepted call.
-use Rattle.std.specs.Prelude.{◌≡◌, true, false, ◌-◌, ◌*◌, ◌^◌, ◌≤◌}
+use Rattle.std.specs.Prelude.{◌≡◌, true, false, ◌*◌, ◌^◌, ◌≤◌}
 use Rattle.std.specs.Float.Ieee.Exact.{HasValue}
 use Rattle.runlength.specs.Scale.{weight_total}
 use Rattle.table.specs.Table.{TableCall, rules_of}
-use Rattle.bracket.specs.declared.BracketAnswer.TheVariants.{Accepted}
 use Rattle.plot.specs.declared.PlotRecord.{PlotRecord}
 use Rattle.plot.specs.declared.BoxPlotAnswer.{BoxPlotAnswer}
 use Rattle.plot.specs.MeanBounds.{parts_per_one}

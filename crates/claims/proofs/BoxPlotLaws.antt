@@ -1,5 +1,5 @@
 -- An accepted plot record, by the table and the brackets that it is made of. Laws.
-use Rattle.std.specs.Prelude.{◌≡◌, Bool, true, false, ℕ, ◌-◌, ◌*◌, ◌^◌, ◌≤◌}
+use Rattle.std.specs.Prelude.{◌≡◌, Bool, true, false, ℕ, ◌*◌, ◌^◌, ◌≤◌}
 use Rattle.std.proofs.Math.Path.{refl, ap}
 use Rattle.std.proofs.Common.{sym, subst, ◌∙◌, mul-le-mul_right, arith}
 use Rattle.std.specs.Float.Ieee.Exact.{HasValue}
@@ -10,7 +10,6 @@ use Rattle.chain.specs.TableChain.{state_count}
 use Rattle.table.specs.Table.{TableCall, rules_of, chain_of, pmf_of}
 use Rattle.bracket.specs.declared.Bracket.{Bracket}
 use Rattle.bracket.specs.declared.Bracket.TheVariants.{At, Between, Open, Beyond}
-use Rattle.bracket.specs.declared.BracketAnswer.TheVariants.{Accepted}
 use Rattle.bracket.specs.Limits.{min_percent, max_percent}
 use Rattle.bracket.specs.Bracket.{percentile_bracket}
 use Rattle.bracket.proofs.BracketLaws.{accepted_bracket}

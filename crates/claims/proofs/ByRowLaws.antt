@@ -1,7 +1,7 @@
 -- The figures over rows, one for each future, are those of the chain that the table runs on, whichever rows are
 -- taken. Laws.
 use Prim.Native.Nat.{ℕ, zero, suc, ◌*◌, ◌/◌, ◌≤◌, ◌<◌}
-use Rattle.std.specs.Prelude.{◌≡◌, Bool, true, false, ◌↔◌, eqb}
+use Rattle.std.specs.Prelude.{◌≡◌, true, ◌↔◌, eqb}
 use Rattle.std.proofs.Math.Path.{refl, sym, ap}
 use Rattle.std.proofs.Common.{◌∙◌, arith, eqb-true}
 use mathlib.Core.List.{List, []}
@@ -17,7 +17,6 @@ use Rattle.runlength.specs.Automaton.{Automaton, Move, quiet, signal, after}
 use Rattle.runlength.specs.Chain.{inflow, signalled, units, pmf, survival, restricted_mean}
 use Rattle.runlength.specs.Future.{Alike, EqualFuture, Simulation}
 use Rattle.runlength.proofs.FutureLaws.{future_sym, future_trans, future_step, to_signal}
-use Rattle.runlength.specs.Apart.{alike_for}
 use Rattle.runlength.proofs.ApartLaws.{future_alike, simulation_alike}
 use Rattle.states.specs.Automata.{state_automaton, reference_automaton}
 use Rattle.chain.specs.TableChain.{explored_count, state_count, table_automaton, table_chain}

@@ -1,6 +1,6 @@
 -- CLAIMS: readings on the centre line. C0 is exactly t = 0, and under the ready lists such a point counts for neither
 -- side.
-use Rattle.std.specs.Prelude.{ℕ, ◌+◌, ◌≤◌, ◌≡◌, refl, true, List, ℤ, ◌+ℤ◌, take}
+use Rattle.std.specs.Prelude.{ℕ, ◌+◌, ◌≤◌, ◌≡◌, refl, true, List, ℤ, take}
 use Rattle.std.proofs.Common.{ap, ◌∙◌, arith}
 use Rattle.std.proofs.Math.IntN.{+ℤ_invr}
 use Rattle.rules.specs.declared.Rule.{Rule}

@@ -1,5 +1,5 @@
 -- CLAIM: document 01's marked examples, one table with one proof: what the operations' definitions give, and what the paper says.
-use Rattle.std.specs.Prelude.{◌≡◌, ◌-◌}
+use Rattle.std.specs.Prelude.{◌≡◌}
 use Rattle.std.proofs.Common.{ap₂, ◌∙◌}
 use Rattle.claims.specs.Examples.{rows, marked}
 use Rattle.claims.proofs.MarkedLaws.{count_2_3, count_4_5, evaluated}

@@ -1,5 +1,5 @@
 -- The marked examples, computed. Laws.
-use Rattle.std.specs.Prelude.{◌≡◌, refl, ◌-◌}
+use Rattle.std.specs.Prelude.{◌≡◌, refl}
 use Rattle.std.proofs.Common.{arith}
 use Rattle.rules.specs.Check.{active_rules, rules_from, check_rules, check_of}
 use Rattle.rules.specs.Mask.{mask_of}

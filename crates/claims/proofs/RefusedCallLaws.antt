@@ -25,7 +25,7 @@ use Rattle.states.specs.States.{states}
 use Rattle.states.specs.Automata.{state_automaton}
 use Rattle.chain.specs.TableChain.{explored_count}
 use Rattle.table.specs.declared.TableAnswer.{TableAnswer}
-use Rattle.table.specs.Table.{TableCall, CallResult, rules_of, chain_check, table_check, table_of}
+use Rattle.table.specs.Table.{TableCall, CallResult, rules_of, table_check, table_of}
 use Rattle.table.proofs.TableLaws.{chain_refused, refused_check}
 use Rattle.table.proofs.ChainCheckLaws.{too_many_states_lem, chain_passes}
 use Rattle.summary.specs.Summary.{summary_of}

@@ -1,5 +1,5 @@
 -- TO BELIEVE: what demand 3 compares with, from document 01's own paragraphs: nothing here knows of a state, a chain or a rounded figure. Definitions.
-use Rattle.std.specs.Prelude.{ℕ, suc, ◌*◌, ◌^◌, Bool, true, false, cond, ◌||◌, List, [], ◌∷◌, leb}
+use Rattle.std.specs.Prelude.{ℕ, suc, ◌*◌, ◌^◌, Bool, false, cond, ◌||◌, List, [], ◌∷◌, leb}
 use Rattle.rules.specs.declared.Rule.{Rule}
 use Rattle.rules.specs.declared.RuleList.{RuleList}
 use Rattle.rules.specs.Bounds.{zone_count}

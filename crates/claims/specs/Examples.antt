@@ -4,7 +4,6 @@ use Rattle.rules.specs.declared.RuleList.{RuleList}
 use Rattle.rules.specs.Check.{no_rule, active_rules}
 use Rattle.rules.specs.Ready.{rule_of}
 use Rattle.runlength.specs.Scale.{units_per_one}
-use Rattle.runlength.specs.Chain.{survival}
 use Rattle.monitor.specs.declared.zone.ZoneAnswer.{ZoneAnswer}
 use Rattle.monitor.specs.declared.zone.ZoneAnswer.TheVariants.{Zone}
 use Rattle.monitor.specs.Zone.{zone_of}

@@ -14,7 +14,7 @@ use Rattle.decimal.specs.declared.word.Found.TheVariants.{At, Absent}
 use Rattle.decimal.specs.Decimal.{decimal, minus_byte, signed_decimal, max_positive, max_negative}
 use Rattle.decimal.specs.Spans.{Spans}
 use Rattle.decimal.specs.SpansLaws.{spans_byte, spans_then, spans_front, spans_back, spans_first}
-use Rattle.decimal.specs.Word.{comma, newline, word_at, on_found}
+use Rattle.decimal.specs.Word.{comma, word_at, on_found}
 use Rattle.decimal.specs.WordLaws.{word_spans, word_read}
 use Rattle.decimal.specs.Number.{NoDigit, number_at}
 use Rattle.decimal.specs.NumberLaws.{number_is}

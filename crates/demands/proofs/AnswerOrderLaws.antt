@@ -1,6 +1,6 @@
 -- Each operation's own answer is a refusal exactly as its order says. Laws.
 use Rattle.std.specs.Prelude.{ℕ, ◌≡◌, refl, Bool, true, false, cond, List, ◌↔◌, leb, ℤ, nat_abs, ◌-ℤ◌}
-use Rattle.std.proofs.Common.{sym, ap, ◌∙◌, arith}
+use Rattle.std.proofs.Common.{sym, ap, ◌∙◌}
 use Rattle.rules.specs.declared.RuleList.{RuleList}
 use Rattle.rules.specs.declared.refusal.Refusal.{Refusal}
 use Rattle.rules.specs.declared.Checked.{Checked}
@@ -36,7 +36,7 @@ use Rattle.code_claims.proofs.CodedLaws.{step_checked_lem, bracket_checked_lem}
 use Rattle.code_claims.proofs.ExportedLaws.{batch_checked_lem}
 use Rattle.claims.proofs.RefusedCallLaws.{plot_refused}
 use Rattle.demands.specs.Order.{ListOrder, ZoneOrder, StepOrder, BatchOrder, TableOrder, BracketOrder, ShiftOrder}
-use Rattle.demands.proofs.OrderLaws.{Follows, none_left, last, same, list_order, sigma_then, step_order, batch_order, table_order, bracket_order, shift_order}
+use Rattle.demands.proofs.OrderLaws.{Follows, none_left, last, list_order, sigma_then, step_order, batch_order, table_order, bracket_order, shift_order}
 
 -- an answer that is refused as the check c is, is refused as c's order says
 by_order : {A : Type 0} (a : A) (refusal : Refusal → A) (c : Checked) {Order : Refusal → Type 0} → Follows c Order

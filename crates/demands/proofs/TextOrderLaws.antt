@@ -3,23 +3,20 @@ use Rattle.std.specs.Prelude.{ℕ, ◌≤◌, ◌<◌, ◌≡◌, refl, Bool, tr
 use Rattle.std.proofs.Common.{sym, ap, ◌∙◌, arith, le-leb, leb-true}
 use Rattle.std.proofs.Math.Decide.{dec_lt}
 use Rattle.std.proofs.lemmas.List.{length-replicate}
-use Rattle.std.proofs.lemmas.Bool.{lt-leb}
 use Rattle.rules.specs.declared.Rule.{Rule}
 use Rattle.rules.specs.declared.refusal.Refusal.{Refusal}
-use Rattle.rules.specs.declared.Checked.{Checked}
-use Rattle.rules.specs.declared.Checked.TheVariants.{Accepted, Refused}
+use Rattle.rules.specs.declared.Checked.TheVariants.{Refused}
 use Rattle.rules.specs.Refusal.{refusal, bad_sigma, bad_line, too_long, bad_node, bad_shift}
 use Rattle.rules.specs.Check.{within, or_else, unless, check_of}
 use Rattle.rules.proofs.CheckLaws.{between}
 use Rattle.runlength.specs.Scale.{min_horizon, max_horizon}
 use Rattle.monitor.specs.Zone.{min_sigma, max_sigma}
-use Rattle.table.specs.Table.{TableCall, table_call, chain_check}
+use Rattle.table.specs.Table.{table_call, chain_check}
 use Rattle.table.proofs.TableLaws.{room_check}
 use Rattle.summary.specs.declared.SummaryAnswer.{SummaryAnswer}
 use Rattle.summary.specs.Summary.{summary_of}
 use Rattle.shift.specs.declared.ShiftAnswer.{ShiftAnswer}
 use Rattle.shift.specs.Shift.{max_shift, weights_of, shift_of}
-use Rattle.grammar.specs.Size.{max_text}
 use Rattle.grammar.proofs.EveryGrammar.{not_both}
 use Rattle.rule_lines.specs.Rules.{rule_list_of}
 use Rattle.table_text.specs.ReadTable.{refused_table, read_table}
@@ -38,13 +35,12 @@ use Rattle.weights_report.specs.WeightsReport.{text_weights, weights_by, weights
 use Rattle.write.specs.Refused.{refused_line}
 use Rattle.write.specs.Printed.{printed_bytes}
 use Rattle.text_claims.specs.NumbersApartLaws.{refused_line_once}
-use Rattle.table_claims.specs.TableTexts.{TableTextIs}
 use Rattle.table_claims.proofs.TableBytes.{table_read, table_stopped, table_too_long}
 use Rattle.table_claims.specs.TableOutput as table
 use Rattle.table_claims.specs.TableOutput.{TableRefusal, TableProgram}
 use Rattle.table_claims.proofs.TableProgram.{table_program}
 use Rattle.table_claims.proofs.TablePrintedOnceLaws.{table_not_refused}
-use Rattle.monitor_claims.specs.MonitorTexts.{MonitorTextIs, OffBench}
+use Rattle.monitor_claims.specs.MonitorTexts.{MonitorTextIs}
 use Rattle.monitor_claims.proofs.MonitorBytes.{monitor_read, monitor_off_bench, monitor_stopped, monitor_too_long}
 use Rattle.monitor_claims.specs.MonitorOutput as monitor
 use Rattle.monitor_claims.specs.MonitorOutput.{MonitorRefusal, MonitorProgram}
@@ -56,7 +52,7 @@ use Rattle.weights_claims.specs.WeightsTexts as weights
 use Rattle.weights_claims.specs.WeightsTexts.{WeightsRefusal, WeightsProgram}
 use Rattle.weights_claims.specs.WeightsProgram.{weights_program}
 use Rattle.weights_claims.specs.WeightsProgramLaws.{weights_not_refused}
-use Rattle.demands.specs.Order.{By, here, later, Unrefused, ListThen, SigmaThen, ChartThen, ShiftOrder}
+use Rattle.demands.specs.Order.{here, later, Unrefused, ListThen, SigmaThen, ChartThen}
 use Rattle.demands.proofs.OrderLaws.{Follows, none_left, last, list_then, sigma_then, chart_then, shift_order}
 use Rattle.demands.proofs.AnswerOrderLaws.{refused_answer, refused_summary}
 use Rattle.demands.specs.TextOrder.{ByPlace, TextThen, TableSays, TableTextOrder, OffBenchAt, MonitorSays, MonitorTextOrder, ShiftSays, WeightsTextOrder}

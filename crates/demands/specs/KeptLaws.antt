@@ -20,7 +20,6 @@ use Rattle.bracket.specs.declared.BracketAnswer.{BracketAnswer}
 use Rattle.bracket.specs.Bracket.{bracket_of}
 use Rattle.shift.specs.declared.ShiftAnswer.{ShiftAnswer}
 use Rattle.shift.specs.Shift.{shift_of}
-use Rattle.write.specs.declared.ReportAnswer.{ReportAnswer}
 use Rattle.write.specs.Printed.{Printed, lines, refused_by, report_of}
 use Rattle.table_report.specs.TableReport.{table_printed}
 use Rattle.monitor_report.specs.MonitorReport.{monitor_printed}
@@ -33,7 +32,7 @@ use Rattle.capi.specs.TableCall.{table_checked, figures_after, TableCalled}
 use Rattle.capi.specs.BracketCall.{bracket_checked, bracket_after, BracketCalled}
 use Rattle.capi.specs.PlotCall.{plot_checked, kinds_after, values_after, PlotCalled}
 use Rattle.capi.specs.ShiftCall.{shift_checked, weights_after, ShiftCall}
-use Rattle.capi.specs.ReportCall.{printed_checked, count_after, ReportCall}
+use Rattle.capi.specs.ReportCall.{printed_checked, count_after}
 use Rattle.claims.proofs.RefusedCallLaws.{refused_table_keeps, refused_summary_keeps, refused_plot_keeps}
 use Rattle.code_claims.proofs.ExportedLaws.{batch_checked_lem}
 use Rattle.demands.specs.Kept.{ReportKeeps, OperationsKeep, ReportCallKeeps, ExportedKeep}

@@ -10,7 +10,7 @@ use Rattle.runlength.specs.Sum.{at, sum}
 use Rattle.window.specs.Window.{hits_up_to, live}
 use Rattle.window.specs.ReferenceChart.{hits_among, row_mask}
 use Rattle.window.specs.RowState.{row_hits, state_of_row}
-use Rattle.claims.specs.Counted.{QuietRow, empty, point, OfQuietRow, TooManyStates}
+use Rattle.claims.specs.Counted.{QuietRow, empty, point, TooManyStates}
 use Rattle.demands.specs.TwiceInNine.{twice_in_nine}
 
 abbrev rs : List Rule

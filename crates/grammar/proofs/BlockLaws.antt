@@ -11,7 +11,7 @@ use Rattle.decimal.specs.SpansLaws.{spans_first, spans_within}
 use Rattle.decimal.specs.Word.{word_at}
 use Rattle.decimal.specs.WordLaws.{word_spans, word_absent}
 use Rattle.grammar.specs.LineValues.{Field}
-use Rattle.grammar.specs.Form.{named, Form, line, Said, saying}
+use Rattle.grammar.specs.Form.{named, Form, line, Said}
 use Rattle.grammar.specs.Grammar.{once, often, perhaps, Grammar}
 use Rattle.grammar.specs.TextReading.{on_seen, values_at, seen_kind, seen, many_at, after_many}
 use Rattle.grammar.specs.Read.{Seen, found, other}

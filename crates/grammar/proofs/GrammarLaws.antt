@@ -1,5 +1,5 @@
 -- Bytes are a text or stop being one, never both; what is read is so. Laws.
-use Rattle.std.specs.Prelude.{ℕ, ◌+◌, ◌≡◌, refl, Bool, true, false, cond, ◌⊎◌, List, [], ◌∷◌, ◌++◌, leb, length}
+use Rattle.std.specs.Prelude.{ℕ, ◌≡◌, refl, Bool, true, false, cond, ◌⊎◌, List, [], ◌∷◌, ◌++◌, leb, length}
 use Rattle.std.proofs.Common.{sym, ap, ◌∙◌, inl, inr, append_assoc, append-nil, arith, leb-true, leb-false}
 use Rattle.grammar.specs.Size.{max_text}
 use Rattle.grammar.specs.Form.{Saying, bytes_said}

@@ -7,7 +7,6 @@ use Rattle.rules.specs.Bounds.{max_rules}
 use Rattle.rules.specs.Refusal.{bad_line, too_long, bad_node}
 use Rattle.grammar.specs.Size.{max_text}
 use Rattle.grammar.specs.Newlines.{newlines}
-use Rattle.grammar.specs.Form.{line}
 use Rattle.grammar.specs.Grammar.{lines_of, bytes_of_all, Stops}
 use Rattle.grammar.specs.Clear.{kinds_of}
 use Rattle.grammar.proofs.ToldLaws.{lines_in_lem}

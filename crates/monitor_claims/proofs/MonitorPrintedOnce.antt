@@ -1,5 +1,5 @@
 -- CLAIMS: what the monitor program prints determines the numbers.
-use Rattle.std.specs.Prelude.{ℕ, ◌+◌, ◌≡◌, List, [], ◌++◌, ℤ}
+use Rattle.std.specs.Prelude.{ℕ, ◌≡◌, List, [], ◌++◌, ℤ}
 use Rattle.rules.specs.declared.Rule.{Rule}
 use Rattle.write.specs.Printed.{printed_bytes}
 use Rattle.monitor_text.specs.Readings.{NodeReading, node_count}

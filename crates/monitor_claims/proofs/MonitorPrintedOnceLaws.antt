@@ -1,5 +1,5 @@
 -- The monitor program's lines, told apart by their first words. Laws.
-use Rattle.std.specs.Prelude.{ℕ, ◌+◌, ◌≡◌, refl, List, [], ◌∷◌, ◌++◌, ℤ, length, get_or}
+use Rattle.std.specs.Prelude.{ℕ, ◌≡◌, refl, List, [], ◌∷◌, ◌++◌, ℤ, length, get_or}
 use Rattle.std.proofs.Common.{sym, ap, ◌∙◌, append_assoc, arith}
 use Rattle.rules.specs.declared.Rule.{Rule}
 use Rattle.window.specs.ReferenceChart.{Answer, refused, quiet, signal}

@@ -1,6 +1,6 @@
 -- CLAIMS: the periods of a node's quiet and signal lines are 1, 2, 3, .., in order, to the number of its points; and they are what its
 -- run lengths add up to.
-use Rattle.std.specs.Prelude.{ℕ, ◌+◌, ◌≡◌, List, ◌++◌, map, ℤ, length}
+use Rattle.std.specs.Prelude.{ℕ, ◌≡◌, List, ◌++◌, map, ℤ, length}
 use Rattle.rules.specs.declared.Rule.{Rule}
 use Rattle.decimal.specs.Decimal.{decimal}
 use Rattle.monitor_text.specs.Readings.{NodeReading, readings_of}

@@ -1,6 +1,6 @@
 -- TO BELIEVE: what the monitor program's printed bytes are claimed to be: one refusal line and its reason, or the lines of what the plain chart of
 -- each node says. Definitions.
-use Rattle.std.specs.Prelude.{ℕ, ◌-◌, ◌≤◌, ◌<◌, ◌≡◌, List, [], ℤ, length, ◌∷◌}
+use Rattle.std.specs.Prelude.{ℕ, ◌≤◌, ◌<◌, ◌≡◌, List, [], ℤ, length, ◌∷◌}
 use Rattle.rules.specs.declared.Rule.{Rule}
 use Rattle.rules.specs.declared.refusal.Refusal.{Refusal}
 use Rattle.rules.specs.declared.Checked.TheVariants.{Accepted, Refused}

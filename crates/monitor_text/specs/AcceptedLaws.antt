@@ -10,7 +10,7 @@ use Rattle.grammar.specs.TextReading.{also, read_at, read_text}
 use Rattle.grammar.specs.Read.{Reading, read, stopped, long}
 use Rattle.rule_lines.specs.Rules.{rule_line, rules_said}
 use Rattle.monitor_text.specs.declared.monitors.MonitorText.{MonitorText}
-use Rattle.monitor_text.specs.Readings.{NodeReading, OnBench, bench_points}
+use Rattle.monitor_text.specs.Readings.{OnBench, bench_points}
 use Rattle.monitor_text.specs.ReadingsLaws.{all_bench, bench_all}
 use Rattle.monitor_text.specs.MonitorGrammar.{chart_line, point_line, monitor_grammar, points_said}
 use Rattle.monitor_text.specs.MonitorText.{points_at, bench_or, monitor_of, monitor_text, monitor_points}

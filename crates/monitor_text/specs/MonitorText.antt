@@ -3,7 +3,7 @@ use Rattle.std.specs.Prelude.{ℕ, ◌+◌, cond, List, ltb, length}
 use Rattle.rules.specs.Refusal.{bad_line, too_long, bad_node}
 use Rattle.grammar.specs.Form.{Says, line}
 use Rattle.grammar.specs.Grammar.{Contents}
-use Rattle.grammar.specs.TextReading.{many_at, after_many}
+use Rattle.grammar.specs.TextReading.{many_at}
 use Rattle.grammar.specs.TextReading.{read_text}
 use Rattle.grammar.specs.Read.{Reading, read, stopped, long}
 use Rattle.rule_lines.specs.Rules.{rule_line, rules_said}

@@ -2,7 +2,7 @@
 use Rattle.std.specs.Prelude.{ℕ, ◌+◌, ◌≤◌, ◌<◌, ◌≡◌, ℤ}
 use Rattle.std.proofs.Math.Path.{refl, ap}
 use Rattle.std.proofs.Common.{sym, ◌∙◌, arith, length-append, le-leb, lt-ltb, le-ltb}
-use mathlib.Core.List.{List, [], ◌∷◌, ◌++◌, append-nil}
+use mathlib.Core.List.{List, [], ◌∷◌, append-nil}
 use Rattle.std.proofs.Math.ListN.{length, get_or}
 use Rattle.std.proofs.lemmas.Bool.{lt-leb}
 use Rattle.rules.specs.declared.RuleList.{RuleList}
@@ -12,13 +12,13 @@ use Rattle.decimal.specs.Signed.{lowered}
 use Rattle.decimal.specs.SignedLaws.{lowered_raised}
 use Rattle.grammar.specs.LineValues.{number, signed, ValuesFit}
 use Rattle.grammar.specs.Form.{bytes_said, Says, line, saying}
-use Rattle.grammar.specs.Grammar.{one, many, Contents, many_lines, lines_of, bytes_of_all}
+use Rattle.grammar.specs.Grammar.{many, Contents, many_lines, lines_of, bytes_of_all}
 use Rattle.grammar.specs.Clear.{Clear}
 use Rattle.grammar.specs.Size.{max_text}
 use Rattle.grammar.proofs.FormLaws.{Look, looked}
 use Rattle.grammar.proofs.TextReadingLaws.{many_stand}
 use Rattle.grammar.specs.TextReading.{seen, many_at, after_many}
-use Rattle.grammar.specs.Read.{Seen, found, other}
+use Rattle.grammar.specs.Read.{Seen, found}
 use Rattle.grammar.specs.TextReading.{also, read_at, read_text}
 use Rattle.grammar.specs.Read.{Reading, read, stopped, long}
 use Rattle.grammar.proofs.BlockLaws.{read_line, read_other, read_many, read_end, read_more, other_word, word_inside, none_of_many}

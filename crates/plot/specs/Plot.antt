@@ -1,5 +1,5 @@
 -- TO BELIEVE: the plot record, and the operation that makes it: what it answers, and what the two lent lists then hold. Definitions.
-use Rattle.std.specs.Prelude.{List, ℕ, ◌+◌, ◌≤◌}
+use Rattle.std.specs.Prelude.{ℕ, ◌+◌, ◌≤◌}
 use Rattle.table.specs.Table.{TableCall, mean_of}
 use Rattle.summary.specs.declared.Summary.{Summary}
 use Rattle.summary.specs.declared.SummaryAnswer.{SummaryAnswer}

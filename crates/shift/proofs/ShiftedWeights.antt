@@ -1,5 +1,5 @@
 -- CLAIMS: the weights of a shifted core: areas of the table over the integers, none empty, together probability one, falling outwards, mirrored.
-use Rattle.std.specs.Prelude.{◌-◌, ◌≤◌, ◌<◌, ◌≡◌, ℤ, neg_ℤ, nat_abs}
+use Rattle.std.specs.Prelude.{◌≤◌, ◌<◌, ◌≡◌, ℤ, neg_ℤ, nat_abs}
 use Rattle.std.proofs.Common.{arith, le-leb}
 use Rattle.std.proofs.lemmas.Bool.{lt-leb}
 use Rattle.rules.specs.declared.weights.ZoneWeights.{ZoneWeights}
@@ -11,7 +11,6 @@ use Rattle.runlength.specs.Sum.{at, sum}
 use Rattle.shift.specs.declared.ShiftAnswer.TheVariants.{Accepted, Refused}
 use Rattle.shift.specs.Shift.{max_shift, normal_area, weights_of, shift_of}
 use Rattle.shift.specs.Shifted.{Shifted, mirrored, mirrored_answer}
-use Rattle.shift.proofs.ShiftLaws.{whole}
 use Rattle.shift.proofs.ShiftLaws.{area_odd as area-odd-proved, weights_shifted as weights-shifted-proved, weights_mirrored as weights-mirrored-proved}
 use Rattle.shift.proofs.ShiftLaws.{shift_mirrored as shift-mirrored-proved}
 

@@ -1,6 +1,6 @@
 -- Laws of the table's rows: none, one more, and all of them.
 use Rattle.std.specs.Prelude.{ℕ, zero, suc, ◌+◌, ◌≤◌, ◌<◌, ◌≡◌, refl, List, length, get_or}
-use Rattle.std.proofs.Common.{◌∙◌, arith, add-one}
+use Rattle.std.proofs.Common.{arith, add-one}
 use Rattle.write.specs.Wrote.{Wrote}
 use Rattle.write.specs.PartsWritten.{joined}
 use Rattle.write.specs.PartsWrittenLaws.{parts_start, parts_more, parts_done}

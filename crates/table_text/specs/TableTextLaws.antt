@@ -16,17 +16,16 @@ use Rattle.grammar.specs.Form.{Says, line}
 use Rattle.grammar.specs.Grammar.{one, many, Contents}
 use Rattle.grammar.specs.Clear.{Clear}
 use Rattle.grammar.specs.Size.{max_text}
-use Rattle.grammar.specs.TextReading.{seen, many_at, after_many}
-use Rattle.grammar.specs.Read.{found, other}
+use Rattle.grammar.specs.TextReading.{seen, many_at}
+use Rattle.grammar.specs.Read.{other}
 use Rattle.grammar.specs.TextReading.{also, read_at, read_text}
-use Rattle.grammar.specs.Read.{Reading, read, stopped, long}
+use Rattle.grammar.specs.Read.{Reading, stopped, long}
 use Rattle.grammar.proofs.BlockLaws.{read_line, read_other, read_many, read_end, read_more, other_word}
 use Rattle.text.specs.declared.lines.LineRead.{LineRead}
 use Rattle.text.specs.LineRead.{most_fields, slots_of, codes, line_read_at}
 use Rattle.text.specs.LineReadLaws.{SeenLine, line_seen, line_none, codes_numbers, places_full}
 use Rattle.rule_lines.specs.declared.rule_lines.RulesRead.{RulesRead}
-use Rattle.rule_lines.specs.Rules.{rule_word, rule_line, rules_said, rule_list_of, rules_read}
-use Rattle.rule_lines.specs.RulesLaws.{said_length}
+use Rattle.rule_lines.specs.Rules.{rule_line, rules_read}
 use Rattle.rule_lines.specs.RuleTurnLaws.{read_list, read_next, read_line_number, read_refused}
 use Rattle.table_text.specs.declared.TableText.{TableText}
 use Rattle.table_text.specs.TableGrammar.{weights_word, weights_line, horizon_word, horizon_line, table_grammar}

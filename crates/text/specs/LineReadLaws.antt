@@ -11,7 +11,7 @@ use Rattle.decimal.specs.declared.word.Found.{Found}
 use Rattle.decimal.specs.declared.word.Found.TheVariants.{At, Absent}
 use Rattle.decimal.specs.Word.{newline, word_at, on_found}
 use Rattle.decimal.specs.Number.{field_at, on_number}
-use Rattle.decimal.specs.Signed.{Signed, Whole, NoSigned, signed_field_at, on_signed, raised, raised_of}
+use Rattle.decimal.specs.Signed.{Signed, Whole, NoSigned, signed_field_at, on_signed, raised_of}
 use Rattle.grammar.specs.LineValues.{Field, number, signed, Value, Values, ValuesFit}
 use Rattle.grammar.specs.NumberFields.{numbers, numbers_in}
 use Rattle.grammar.specs.Form.{named, line}

@@ -1,5 +1,5 @@
 -- The weights program's text by its contents. Laws.
-use Rattle.std.specs.Prelude.{ℕ, suc, ◌+◌, ◌≤◌, ◌≡◌, List, [], ◌++◌, ℤ, pos, negsuc, length}
+use Rattle.std.specs.Prelude.{ℕ, suc, ◌≤◌, ◌≡◌, List, [], ◌++◌, ℤ, pos, negsuc, length}
 use Rattle.std.proofs.Common.{ap, arith, length-append}
 use Rattle.decimal.specs.Decimal.{signed_decimal}
 use Rattle.decimal.specs.DecimalLaws.{decimal_short_64}

@@ -1,5 +1,5 @@
 -- CLAIMS: the weights program, for every text, of the bytes that its output function's contract names; and that a table text takes its line.
-use Rattle.std.specs.Prelude.{ℕ, ◌+◌, ◌≤◌, ◌≡◌, List, [], ◌∷◌, ◌++◌, ℤ, nat_abs, length}
+use Rattle.std.specs.Prelude.{ℕ, ◌≤◌, ◌≡◌, List, [], ◌∷◌, ◌++◌, ℤ, nat_abs, length}
 use Rattle.rules.specs.declared.Rule.{Rule}
 use Rattle.rules.specs.Weights.{weight_list}
 use Rattle.shift.specs.Shift.{max_shift, weights_of}

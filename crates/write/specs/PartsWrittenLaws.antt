@@ -1,5 +1,5 @@
 -- Laws of a loop that writes parts: none yet, one more, all of them.
-use Rattle.std.specs.Prelude.{ℕ, suc, ◌+◌, ◌*◌, ◌≤◌, ◌<◌, ◌≡◌, refl, List, ◌++◌, length}
+use Rattle.std.specs.Prelude.{ℕ, ◌+◌, ◌*◌, ◌≤◌, ◌<◌, ◌≡◌, refl, List, ◌++◌, length}
 use Rattle.std.proofs.Common.{ap, ◌∙◌, arith, mul-suc, add-one}
 use Rattle.write.specs.Wrote.{Wrote}
 use Rattle.write.specs.WroteLaws.{wrote_nothing, wrote_length, then}

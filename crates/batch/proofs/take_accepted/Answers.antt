@@ -1,14 +1,13 @@
 -- `take_accepted` meets its contract. The invariant: what the readings left give is what the whole gives.
 use mathlib.Core.Path.{◌≡◌, sym, ap, ◌∙◌}
 use mathlib.Core.List.{List}
-use Prim.Native.Nat.{ℕ, ◌≤◌, ◌-◌}
+use Prim.Native.Nat.{ℕ}
 use native.Mathlib.Omega.{arith}
 use lib.IntN.{ℤ, pos, ◌-ℤ◌}
 use lib.ListN.{get_or}
 use mir.Syntax.{w32}
 use mir.Val.{SFits, to_z, of_z}
 use mir.Facts.{to_z-of_z}
-use borrow.Author.Rules.{rules}
 use Rattle.rules.specs.declared.RuleList.{RuleList}
 use Rattle.rules.specs.Check.{active_rules}
 use Rattle.rules.proofs.CheckLaws.{accepted, between}

@@ -1,7 +1,6 @@
 -- `bracket_by` meets its contract: each return is one case of the definition.
 use mathlib.Core.Path.{sym, ap}
 use native.Mathlib.Omega.{arith}
-use borrow.Author.Rules.{rules}
 use Rattle.bracket.specs.Crossing.{option_of}
 use Rattle.bracket.proofs.BracketLaws.{by_neither, by_low, by_equal, by_unequal}
 use Rattle.bracket.proofs.Tags.{is_never}

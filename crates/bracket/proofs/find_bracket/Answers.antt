@@ -4,7 +4,6 @@ use mathlib.Core.Option.{Option}
 use Prim.Native.Nat.{ℕ}
 use lib.ListN.{length}
 use Rattle.bracket.specs.Bracket.{bracket_by, percentile_bracket}
-use borrow.Author.Rules.{rules}
 use Rattle.bracket.proofs.find_bracket.Goals as goal
 
 pub returns : goal.returns

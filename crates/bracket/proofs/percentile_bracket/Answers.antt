@@ -1,5 +1,5 @@
 -- `percentile_bracket` meets its contract: each refusal by the tests that lead to it, and the bracket of a call that none applies to.
-use mathlib.Core.Path.{◌≡◌, sym, ap, ◌∙◌}
+use mathlib.Core.Path.{sym, ap, ◌∙◌}
 use native.Mathlib.Omega.{arith}
 use lib.ListN.{length}
 use borrow.Author.Tests.{leb-true, not-true, not-false}
@@ -10,7 +10,6 @@ use Rattle.bracket.specs.declared.BracketAnswer.TheVariants.{Accepted}
 use Rattle.bracket.specs.Limits.{min_states, min_percent, max_percent}
 use Rattle.bracket.proofs.BracketLaws.{accepted_bracket}
 use Rattle.bracket.proofs.RefusedLaws.{under_range, over_range, refused_length, refused_states, refused_percent, refused_total}
-use borrow.Author.Rules.{rules}
 use Rattle.bracket.proofs.percentile_bracket.Goals as goal
 
 pub returns-then-pmf-lt-MIN_LENGTH : goal.returns-then-pmf-lt-MIN_LENGTH

@@ -1,13 +1,8 @@
 -- `sum_fits` meets its contract. The invariant: the chances so far and what is left make probability one.
-use mathlib.Core.Path.{◌≡◌, sym}
-use Prim.Native.Nat.{◌+◌, ◌-◌, ◌≤◌}
+use mathlib.Core.Path.{sym}
 use native.Mathlib.Omega.{arith}
-use lib.ListN.{length}
-use Rattle.runlength.specs.Scale.{units_per_one}
-use Rattle.runlength.specs.Chain.{cdf_of}
 use Rattle.runlength.proofs.CdfLaws.{cdf_zero, cdf_more}
 use Rattle.bracket.specs.TotalLaws.{total_over, total_within}
-use borrow.Author.Rules.{rules}
 use Rattle.bracket.proofs.sum_fits.Goals as goal
 
 pub loop-i-init : goal.loop-i-init

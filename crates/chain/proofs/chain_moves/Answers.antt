@@ -1,5 +1,5 @@
 -- `chain::chain_moves` meets its contract: too many states explored, or those that are explored merged.
-use mathlib.Core.Path.{◌≡◌, refl, sym, ◌∙◌}
+use mathlib.Core.Path.{refl}
 use native.Mathlib.Omega.{arith}
 use Rattle.rules.specs.Check.{active_rules}
 use Rattle.rules.proofs.CheckLaws.{accepted}

@@ -1,7 +1,6 @@
 -- `merge` meets its contract: leaders by rounds, classes by leaders, moves by classes.
 use native.Mathlib.Omega.{arith}
 use Rattle.merge.specs.NumberingLaws.{rounds_of, number_of, carry_can, numbered_count, carried_moves}
-use borrow.Author.Rules.{rules}
 use Rattle.merge.proofs.merge.Goals as goal
 
 pub find_leaders-requires : goal.find_leaders-requires

@@ -1,7 +1,6 @@
 -- `plot::box_plot` meets its contract: the table's refusal, or the record of the summary.
 use Rattle.table.specs.Table.{table_call}
 use Rattle.plot.specs.PlotLaws.{refused_plot, left_plottable, accepted_plot}
-use borrow.Author.Rules.{rules}
 use Rattle.plot.proofs.box_plot.Goals as goal
 
 pub plot_record-requires : goal.plot_record-requires

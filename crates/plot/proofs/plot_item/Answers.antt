@@ -3,7 +3,6 @@ use mathlib.Core.Path.{sym, ap}
 use lib.Ieee.{of_int}
 use Rattle.plot.specs.Double.{nearest_to}
 use Rattle.plot.specs.Item.{item_of}
-use borrow.Author.Rules.{rules}
 use Rattle.plot.proofs.plot_item.Goals as goal
 
 pub returns-in-At : goal.returns-in-At

@@ -1,6 +1,5 @@
 -- `plot::plot_record` meets its contract: each field by the function that makes it.
 use Rattle.plot.specs.Plot.{record_of}
-use borrow.Author.Rules.{rules}
 use Rattle.plot.proofs.plot_record.Goals as goal
 
 pub returns : goal.returns

@@ -1,5 +1,4 @@
 -- `shift::below` meets its contract: on either side of the middle.
-use borrow.Author.Rules.{rules}
 use mathlib.Core.Path.{ap}
 use native.Mathlib.Omega.{arith}
 use Prim.Native.Nat.{◌-◌}

@@ -3,57 +3,57 @@ use borrow.Author.Rules.{rules}
 use native.Mathlib.Omega.{arith}
 use mathlib.Core.Path.{refl, sym}
 use Rattle.shift.specs.Area.{areas}
-use Rattle.shift.proofs.ShiftLaws.{Rising, limits_rise, weights_computed}
+use Rattle.shift.proofs.ShiftLaws.{limits_rise, weights_computed}
 use Rattle.shift.proofs.weights_at.Goals as goal
 
 pub below-a1-requires : goal.below-a1-requires
 unfolding areas
 below-a1-requires c = record {
-      table_value = refl;
-      i_bound = search rules;
-    }
+  table_value = refl;
+  i_bound = search rules;
+}
 
 pub below-b1-requires : goal.below-b1-requires
 unfolding areas
 below-b1-requires c = record {
-      table_value = refl;
-      i_bound = search rules;
-    }
+  table_value = refl;
+  i_bound = search rules;
+}
 
 pub below-c1-requires : goal.below-c1-requires
 unfolding areas
 below-c1-requires c = record {
-      table_value = refl;
-      i_bound = search rules;
-    }
+  table_value = refl;
+  i_bound = search rules;
+}
 
 pub below-centre-requires : goal.below-centre-requires
 unfolding areas
 below-centre-requires c = record {
-      table_value = refl;
-      i_bound = search rules;
-    }
+  table_value = refl;
+  i_bound = search rules;
+}
 
 pub below-c2-requires : goal.below-c2-requires
 unfolding areas
 below-c2-requires c = record {
-      table_value = refl;
-      i_bound = search rules;
-    }
+  table_value = refl;
+  i_bound = search rules;
+}
 
 pub below-b2-requires : goal.below-b2-requires
 unfolding areas
 below-b2-requires c = record {
-      table_value = refl;
-      i_bound = search rules;
-    }
+  table_value = refl;
+  i_bound = search rules;
+}
 
 pub below-a2-requires : goal.below-a2-requires
 unfolding areas
 below-a2-requires c = record {
-      table_value = refl;
-      i_bound = search rules;
-    }
+  table_value = refl;
+  i_bound = search rules;
+}
 
 pub overflow_sub-result : goal.overflow_sub-result
 overflow_sub-result c = let r = limits_rise c.args.t (omega arith) in omega arith

@@ -1,6 +1,5 @@
 -- `list_sources` meets its contract.
 use Rattle.sources.specs.ListSourcesLaws.{join_of, list_of, stops_of, listed_of}
-use borrow.Author.Rules.{rules}
 use Rattle.sources.proofs.list_sources.Goals as goal
 
 pub join-requires : goal.join-requires

@@ -1,7 +1,6 @@
 -- `summary::mean_error_bound` meets its contract: no product leaves 64 bits.
 use native.Mathlib.Omega.{arith}
 use Rattle.summary.specs.ErrorBoundLaws.{product_most, products_most}
-use borrow.Author.Rules.{rules}
 use Rattle.summary.proofs.mean_error_bound.Goals as goal
 
 pub overflow_mul-result : goal.overflow_mul-result

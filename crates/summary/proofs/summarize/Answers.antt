@@ -1,7 +1,6 @@
 -- `summary::summarize` meets its contract: each field by the function that makes it.
 use native.Mathlib.Omega.{arith}
 use Rattle.summary.specs.Summary.{summary_by}
-use borrow.Author.Rules.{rules}
 use Rattle.summary.proofs.summarize.Goals as goal
 
 pub find_bracket-requires : goal.find_bracket-requires

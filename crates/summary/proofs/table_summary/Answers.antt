@@ -3,7 +3,6 @@ use mathlib.Core.Path.{sym}
 use lib.Seq.{length-take-le}
 use Rattle.table.specs.Table.{table_call}
 use Rattle.summary.proofs.SummaryLaws.{refused_summary, left_room, left_summarizable, accepted_run}
-use borrow.Author.Rules.{rules}
 use Rattle.summary.proofs.table_summary.Goals as goal
 
 pub slice_bounds-summarize-end : goal.slice_bounds-summarize-end

@@ -1,5 +1,5 @@
 -- `table::run_length_table` meets its contract: the chart's refusal, 11, or the rows of the chain's moves.
-use mathlib.Core.Path.{◌≡◌, sym, ◌∙◌}
+use mathlib.Core.Path.{sym, ◌∙◌}
 use native.Mathlib.Omega.{arith}
 use Rattle.rules.specs.Check.{active_rules}
 use Rattle.table.specs.Table.{table_call}

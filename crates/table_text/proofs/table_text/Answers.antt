@@ -1,5 +1,4 @@
 -- `table_text` meets its contract: each return is a case of what is read.
-use borrow.Author.Rules.{rules}
 use native.Mathlib.Omega.{arith}
 use mathlib.Core.Path.{◌∙◌}
 use Rattle.rule_lines.specs.RuleTurnLaws.{read_few}

@@ -1,11 +1,7 @@
 -- `search::first_reaching` meets its contract. The invariant: the sum is that of the first n chances, and none of them reached the goal.
 use mathlib.Core.Path.{sym}
-use Prim.Native.Nat.{◌-◌}
 use native.Mathlib.Omega.{arith}
-use lib.ListN.{length}
-use Rattle.bracket.specs.Crossing.{Searched}
 use Rattle.bracket.proofs.CrossingLaws.{searched_start, next_room, searched_here, searched_on, searched_end}
-use borrow.Author.Rules.{rules}
 use Rattle.bracket.proofs.search.first_reaching.Goals as goal
 
 pub loop-n-init : goal.loop-n-init

@@ -2,7 +2,6 @@
 use mathlib.Core.Path.{◌∙◌}
 use native.Mathlib.Omega.{arith}
 use lib.ListN.{length}
-use borrow.Author.Rules.{rules}
 use Rattle.bracket.proofs.CrossingLaws.{search_low}
 use Rattle.bracket.proofs.search.lower.Goals as goal
 

@@ -1,8 +1,6 @@
 -- `batch_code` meets its contract.
-use mathlib.Core.Path.{◌≡◌, ◌∙◌, sym}
 use native.Mathlib.Omega.{arith}
 use Rattle.call_arrays.specs.BatchCodeLaws.{taken_code, unrefused_code, refused_code}
-use borrow.Author.Rules.{rules}
 use Rattle.call_arrays.proofs.batches.batch_code.Goals as goal
 
 pub returns-then-found-gt0 : goal.returns-then-found-gt0

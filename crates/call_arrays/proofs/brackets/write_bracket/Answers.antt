@@ -1,10 +1,7 @@
 -- `write_bracket` meets its contract: each arm is one case of the definition.
 use mathlib.Core.Path.{sym, ap, ◌∙◌}
-use mathlib.Core.List.{List}
-use Prim.Native.Nat.{ℕ}
 use Rattle.bracket.specs.declared.Bracket.{Bracket}
 use Rattle.call_arrays.specs.BracketArrays.{bracket_as}
-use borrow.Author.Rules.{rules}
 use Rattle.call_arrays.proofs.brackets.write_bracket.Goals as goal
 
 pub returns-in-At : goal.returns-in-At

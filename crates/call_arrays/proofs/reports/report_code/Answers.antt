@@ -1,6 +1,5 @@
 -- `reports::report_code` meets its contract: by the report's answer.
 use Rattle.call_arrays.specs.ReportCodeLaws.{written_code, refused_code}
-use borrow.Author.Rules.{rules}
 use Rattle.call_arrays.proofs.reports.report_code.Goals as goal
 
 pub returns-in-Refused : goal.returns-in-Refused

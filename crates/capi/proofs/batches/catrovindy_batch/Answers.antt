@@ -1,9 +1,7 @@
 -- `batches::catrovindy_batch` meets its contract: by the batch's code.
-use mathlib.Core.Path.{refl}
 use mir.Facts.{to_z-of_z}
 use Rattle.capi.specs.MonitorCall.{monitor_of}
 use Rattle.capi.specs.BatchCallLaws.{batch_refused, batch_taken, same_batch, same_call}
-use borrow.Author.Rules.{rules}
 use Rattle.capi.proofs.batches.catrovindy_batch.Goals as goal
 
 pub returns-then-refused-ne0 : goal.returns-then-refused-ne0

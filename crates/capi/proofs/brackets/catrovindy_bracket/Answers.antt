@@ -1,7 +1,6 @@
 -- `capi::catrovindy_bracket` meets its contract: the bracket's refusal, or its bracket.
 use mathlib.Core.Path.{refl}
 use Rattle.capi.specs.BracketCallLaws.{bracket_call}
-use borrow.Author.Rules.{rules}
 use Rattle.capi.proofs.brackets.catrovindy_bracket.Goals as goal
 
 pub returns-in-Refused : goal.returns-in-Refused

@@ -1,7 +1,6 @@
 -- `capi::catrovindy_check` meets its contract: by the check's answer.
 use mathlib.Core.Path.{refl, sym, ap, ◌∙◌}
 use denote.Enum.Declared.{tag_of}
-use borrow.Author.Rules.{rules}
 use Rattle.rules.specs.Check.{check_of}
 use Rattle.rules.proofs.CheckLaws.{is_accepted}
 use Rattle.rules.specs.contracts.Checked.{the_type}

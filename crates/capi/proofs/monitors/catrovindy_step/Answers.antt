@@ -3,7 +3,6 @@ use mathlib.Core.Path.{refl}
 use Rattle.codes.specs.Codes.{slot_list}
 use Rattle.capi.specs.MonitorCall.{monitor_of}
 use Rattle.capi.specs.MonitorCallLaws.{step_call}
-use borrow.Author.Rules.{rules}
 use Rattle.capi.proofs.monitors.catrovindy_step.Goals as goal
 
 pub returns-in-Refused : goal.returns-in-Refused

@@ -2,7 +2,6 @@
 use mathlib.Core.Path.{refl}
 use mir.Facts.{to_z-of_z}
 use Rattle.capi.specs.MonitorCallLaws.{zone_call}
-use borrow.Author.Rules.{rules}
 use Rattle.capi.proofs.monitors.catrovindy_zone.Goals as goal
 
 pub returns-in-Refused : goal.returns-in-Refused

@@ -5,7 +5,6 @@ use Rattle.table.specs.Table.{table_call}
 use Rattle.plot.specs.Plot.{box_plot_of}
 use Rattle.codes.specs.Codes.{slot_list}
 use Rattle.capi.specs.PlotCallLaws.{plot_call}
-use borrow.Author.Rules.{rules}
 use Rattle.capi.proofs.plots.catrovindy_plot.Goals as goal
 
 pub returns-in-Refused : goal.returns-in-Refused

@@ -1,7 +1,6 @@
 -- `reports::catrovindy_monitor_report` meets its contract: by the report's answer.
 use Rattle.monitor_report.specs.MonitorReport.{monitor_printed}
 use Rattle.capi.specs.ReportCallLaws.{report_call_lem}
-use borrow.Author.Rules.{rules}
 use Rattle.capi.proofs.reports.catrovindy_monitor_report.Goals as goal
 
 pub returns : goal.returns

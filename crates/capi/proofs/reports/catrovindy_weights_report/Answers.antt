@@ -1,7 +1,6 @@
 -- `reports::catrovindy_weights_report` meets its contract: by the report's answer.
 use Rattle.weights_report.specs.WeightsReport.{weights_printed}
 use Rattle.capi.specs.ReportCallLaws.{report_call_lem}
-use borrow.Author.Rules.{rules}
 use Rattle.capi.proofs.reports.catrovindy_weights_report.Goals as goal
 
 pub returns : goal.returns

@@ -1,7 +1,6 @@
 -- `shifts::catrovindy_shift_weights` meets its contract: by the operation's answer.
 use mathlib.Core.Path.{refl}
 use mir.Facts.{to_z-of_z}
-use borrow.Author.Rules.{rules}
 use Rattle.capi.specs.ShiftCallLaws.{shift_call}
 use Rattle.capi.proofs.shifts.catrovindy_shift_weights.Goals as goal
 

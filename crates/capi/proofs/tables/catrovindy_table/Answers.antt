@@ -4,7 +4,6 @@ use Rattle.rules.specs.declared.RuleList.{RuleList}
 use Rattle.table.specs.Table.{table_call, table_of}
 use Rattle.codes.specs.Codes.{slot_list}
 use Rattle.capi.specs.TableCallLaws.{call_refused, call_accepted}
-use borrow.Author.Rules.{rules}
 use Rattle.capi.proofs.tables.catrovindy_table.Goals as goal
 
 pub returns-in-Refused : goal.returns-in-Refused

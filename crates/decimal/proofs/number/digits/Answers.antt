@@ -1,12 +1,8 @@
 -- `text::digits` meets its contract. The invariant: what is read from here on is what was to be read from the start.
-use borrow.Author.Rules.{rules}
 use native.Mathlib.Omega.{arith}
-use mathlib.Core.Path.{◌≡◌, refl, sym, ap, ◌∙◌}
-use Prim.Native.Nat.{◌≤◌, ◌-◌}
-use lib.ListN.{length, drop}
+use mathlib.Core.Path.{refl, sym, ap, ◌∙◌}
 use Rattle.decimal.proofs.Digit.{stop_end, stop_low, stop_high, over, on}
-use Rattle.rules.specs.Bounds.{max_number}
-use Rattle.decimal.specs.Number.{more, digits_from}
+use Rattle.decimal.specs.Number.{more}
 use Rattle.decimal.proofs.number.digits.Goals as goal
 
 pub loop-i-init : goal.loop-i-init

@@ -1,12 +1,9 @@
 -- `text::digits` meets its contract. The invariant: what is read from here on is what was to be read from the start.
-use borrow.Author.Rules.{rules}
-use native.Mathlib.Omega.{arith}
-use mathlib.Core.Path.{◌≡◌, refl, sym, ap, ◌∙◌}
+use mathlib.Core.Path.{◌≡◌}
 use Prim.Native.Nat.{◌≤◌, ◌-◌}
 use lib.ListN.{length, drop}
-use Rattle.decimal.proofs.Digit.{stop_end, stop_low, stop_high, over, on}
 use Rattle.rules.specs.Bounds.{max_number}
-use Rattle.decimal.specs.Number.{more, digits_from}
+use Rattle.decimal.specs.Number.{digits_from}
 use Rattle.decimal.proofs.number.digits.Given as goal
 
 abbrev pub invariant-loop-i : goal.invariant-loop-i

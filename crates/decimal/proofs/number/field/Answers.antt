@@ -1,5 +1,4 @@
 -- `text::field` meets its contract: a comma, then the number.
-use borrow.Author.Rules.{rules}
 use mathlib.Core.Path.{sym, ◌∙◌}
 use Rattle.decimal.specs.Number.{field_at}
 use Rattle.decimal.specs.OnLaws.{found, absent}

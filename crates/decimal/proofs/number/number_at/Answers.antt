@@ -1,5 +1,4 @@
 -- `text::number_at` meets its contract: the definition's tests, one for each return.
-use borrow.Author.Rules.{rules}
 use native.Mathlib.Omega.{arith}
 use mathlib.Core.Path.{sym, ◌∙◌}
 use Rattle.decimal.proofs.Digit.{number_low, number_high, number_zero, number_some}

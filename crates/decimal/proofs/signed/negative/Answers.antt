@@ -2,7 +2,6 @@
 use mir.Facts.{to_z-of_z}
 use native.Mathlib.Omega.{arith}
 use Rattle.decimal.proofs.Minus.{less_one, neg_fits}
-use borrow.Author.Rules.{rules}
 use Rattle.decimal.proofs.signed.negative.Goals as goal
 
 pub overflow_sub-result : goal.overflow_sub-result

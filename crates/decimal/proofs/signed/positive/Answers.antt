@@ -3,7 +3,6 @@ use mir.Facts.{to_z_pos}
 use mir.Syntax.{w32}
 use Prim.Native.Nat.{◌<◌}
 use native.Mathlib.Omega.{arith}
-use borrow.Author.Rules.{rules}
 use Rattle.decimal.proofs.signed.positive.Goals as goal
 
 pub returns : goal.returns

@@ -2,7 +2,6 @@
 use native.Mathlib.Omega.{arith}
 use mathlib.Core.Path.{sym, ap, ◌∙◌}
 use Rattle.decimal.proofs.Sign.{minus_none, minus_zero, minus_over, minus_some, plus_none, plus_over, plus_some}
-use borrow.Author.Rules.{rules}
 use Rattle.decimal.specs.Signed.{raised_of}
 use Rattle.decimal.proofs.signed.signed_at.Goals as goal
 

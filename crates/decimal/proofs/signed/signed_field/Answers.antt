@@ -1,5 +1,4 @@
 -- `text::signed_field` meets its contract: a comma, then the signed number.
-use borrow.Author.Rules.{rules}
 use mathlib.Core.Path.{sym, ap, ◌∙◌}
 use Rattle.decimal.specs.Signed.{raised_of, signed_field_at}
 use Rattle.decimal.specs.OnLaws.{found, absent}

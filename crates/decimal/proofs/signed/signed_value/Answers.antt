@@ -1,5 +1,4 @@
 -- `signed_value` meets its contract: below 2^31 it is a number below 0.
-use borrow.Author.Rules.{rules}
 use Prim.Native.Nat.{◌-◌}
 use native.Mathlib.Omega.{arith}
 use mir.Facts.{to_z-of_z}

@@ -1,9 +1,6 @@
 -- `text::past` meets its contract. The invariant: what is left of the word decides from here on as the whole did from the start.
 use Rattle.decimal.proofs.Letter.{word_end, text_end, differs, agrees}
-use mathlib.Core.Path.{◌≡◌, refl, sym, ◌∙◌}
-use Prim.Native.Nat.{◌≤◌, ◌-◌}
-use lib.ListN.{length, drop}
-use Rattle.decimal.specs.Word.{past_word}
+use mathlib.Core.Path.{refl, sym, ◌∙◌}
 use borrow.Author.Rules.{rules}
 use Rattle.decimal.proofs.word.past.Goals as goal
 

@@ -1,10 +1,8 @@
 -- `text::past` meets its contract. The invariant: what is left of the word decides from here on as the whole did from the start.
-use Rattle.decimal.proofs.Letter.{word_end, text_end, differs, agrees}
-use mathlib.Core.Path.{◌≡◌, refl, sym, ◌∙◌}
+use mathlib.Core.Path.{◌≡◌}
 use Prim.Native.Nat.{◌≤◌, ◌-◌}
 use lib.ListN.{length, drop}
 use Rattle.decimal.specs.Word.{past_word}
-use borrow.Author.Rules.{rules}
 use Rattle.decimal.proofs.word.past.Given as goal
 
 abbrev pub invariant-loop-j : goal.invariant-loop-j

@@ -1,8 +1,8 @@
 -- `classes::carry` meets its contract: after each turn the first k moves are carried over.
-use Prim.Native.Nat.{◌+◌, ◌-◌, ◌*◌, ◌%◌, ◌≤◌}
-use mathlib.Core.Path.{◌≡◌, refl, ap, ◌∙◌}
+use Prim.Native.Nat.{◌+◌, ◌*◌, ◌%◌}
+use mathlib.Core.Path.{refl, ap, ◌∙◌}
 use native.Mathlib.Omega.{arith}
-use lib.ListN.{length, length-set}
+use lib.ListN.{length-set}
 use Rattle.rules.specs.Bounds.{zone_count}
 use Rattle.runlength.specs.Sum.{at, front}
 use Rattle.runlength.specs.TabLaws.{front_none, front_more}

@@ -1,14 +1,10 @@
 -- `classes::carry` meets its contract: after each turn the first k moves are carried over.
-use Prim.Native.Nat.{◌+◌, ◌-◌, ◌*◌, ◌%◌, ◌≤◌}
-use mathlib.Core.Path.{◌≡◌, refl, ap, ◌∙◌}
-use native.Mathlib.Omega.{arith}
-use lib.ListN.{length, length-set}
+use Prim.Native.Nat.{◌-◌, ◌*◌, ◌≤◌}
+use mathlib.Core.Path.{◌≡◌}
+use lib.ListN.{length}
 use Rattle.rules.specs.Bounds.{zone_count}
-use Rattle.runlength.specs.Sum.{at, front}
-use Rattle.runlength.specs.TabLaws.{front_none, front_more}
+use Rattle.runlength.specs.Sum.{front}
 use Rattle.merge.specs.Numbering.{carried}
-use Rattle.merge.specs.NumberingLaws.{carry_first, carry_entry}
-use Rattle.merge.specs.Rounds.{label_of}
 use Rattle.merge.proofs.classes.carry.Given as goal
 
 abbrev pub invariant-loop-k : goal.invariant-loop-k

@@ -1,9 +1,6 @@
 -- `classes::number` meets its contract: after each turn the first i states have their classes.
-use Prim.Native.Nat.{◌-◌, ◌≤◌}
-use mathlib.Core.Path.{◌≡◌, refl, ◌∙◌}
+use mathlib.Core.Path.{refl, ◌∙◌}
 use native.Mathlib.Omega.{arith}
-use lib.ListN.{length}
-use Rattle.merge.specs.Numbering.{Numbered}
 use Rattle.merge.specs.NumberingLaws.{numbered_none, number_can, numbered_all}
 use Rattle.merge.proofs.classes.number.Goals as goal
 
@@ -44,6 +41,6 @@ shape_of-firsts c = c.loop-i.invariant.3
 
 pub returns : goal.returns
 returns c = record {
-      numbered = numbered_all c.loop-i.invariant.1 (omega (arith, c.loop-i.invariant.0, c.loop-i-test.false));
-      classes_len_unchanged = (c.loop-i.invariant.2, c.loop-i.invariant.3);
-    }
+  numbered = numbered_all c.loop-i.invariant.1 (omega (arith, c.loop-i.invariant.0, c.loop-i-test.false));
+  classes_len_unchanged = (c.loop-i.invariant.2, c.loop-i.invariant.3);
+}

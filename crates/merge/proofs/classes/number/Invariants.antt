@@ -1,10 +1,8 @@
 -- `classes::number` meets its contract: after each turn the first i states have their classes.
 use Prim.Native.Nat.{◌-◌, ◌≤◌}
-use mathlib.Core.Path.{◌≡◌, refl, ◌∙◌}
-use native.Mathlib.Omega.{arith}
+use mathlib.Core.Path.{◌≡◌}
 use lib.ListN.{length}
 use Rattle.merge.specs.Numbering.{Numbered}
-use Rattle.merge.specs.NumberingLaws.{numbered_none, number_can, numbered_all}
 use Rattle.merge.proofs.classes.number.Given as goal
 
 abbrev pub invariant-loop-i : goal.invariant-loop-i

@@ -3,7 +3,6 @@ use mathlib.Core.Path.{refl, sym, ◌∙◌}
 use native.Mathlib.Omega.{arith}
 use lib.ListN.{get_or, length-set}
 use Rattle.merge.specs.NumberingLaws.{count_fits, number_first, number_other}
-use borrow.Author.Rules.{rules}
 use Rattle.merge.proofs.classes.number_state.Goals as goal
 
 pub offset_bounds-leaders-i : goal.offset_bounds-leaders-i

@@ -1,9 +1,7 @@
 -- `rounds::agree` meets its contract: the zones so far agree.
 use Prim.Native.Nat.{◌-◌, ◌≤◌}
-use native.Mathlib.Omega.{arith}
 use Rattle.rules.specs.Bounds.{zone_count}
-use Rattle.merge.specs.AgreeLaws.{AgreeTo, agree_none, agree_more, agree_not, agree_all_lem}
-use borrow.Author.Rules.{rules}
+use Rattle.merge.specs.AgreeLaws.{AgreeTo}
 use Rattle.merge.proofs.rounds.agree.Given as goal
 
 abbrev pub invariant-loop-z : goal.invariant-loop-z

@@ -1,11 +1,9 @@
 -- `rounds::copy` meets its contract: after each turn the first i places are written.
-use Prim.Native.Nat.{◌-◌, ◌≤◌}
-use mathlib.Core.Path.{◌≡◌, refl, ap, ◌∙◌}
+use mathlib.Core.Path.{refl, ap, ◌∙◌}
 use native.Mathlib.Omega.{arith}
-use lib.ListN.{length, length-set}
+use lib.ListN.{length-set}
 use Rattle.runlength.specs.Sum.{at, front}
 use Rattle.runlength.specs.TabLaws.{front_none, front_more}
-use borrow.Author.Rules.{rules}
 use Rattle.merge.proofs.rounds.copy.Goals as goal
 
 pub loop-i-init : goal.loop-i-init

@@ -1,11 +1,8 @@
 -- `rounds::copy` meets its contract: after each turn the first i places are written.
 use Prim.Native.Nat.{◌-◌, ◌≤◌}
-use mathlib.Core.Path.{◌≡◌, refl, ap, ◌∙◌}
-use native.Mathlib.Omega.{arith}
-use lib.ListN.{length, length-set}
+use mathlib.Core.Path.{◌≡◌}
+use lib.ListN.{length}
 use Rattle.runlength.specs.Sum.{at, front}
-use Rattle.runlength.specs.TabLaws.{front_none, front_more}
-use borrow.Author.Rules.{rules}
 use Rattle.merge.proofs.rounds.copy.Given as goal
 
 abbrev pub invariant-loop-i : goal.invariant-loop-i

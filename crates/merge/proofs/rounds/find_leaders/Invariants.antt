@@ -1,11 +1,8 @@
 -- `rounds::find_leaders` meets its contract: after k rounds the leaders are those by continuations of up to k points.
 use Prim.Native.Nat.{◌-◌, ◌≤◌}
-use mathlib.Core.Path.{◌≡◌, refl, ap, ◌∙◌}
-use native.Mathlib.Omega.{arith}
+use mathlib.Core.Path.{◌≡◌}
 use lib.ListN.{length}
-use Rattle.runlength.specs.TabLaws.{front_length}
 use Rattle.merge.specs.Rounds.{HoldsLeaders}
-use Rattle.merge.specs.RoundsLaws.{room_kept, held_all, round_can, round_last, round_next}
 use Rattle.merge.proofs.rounds.find_leaders.Given as goal
 
 abbrev pub invariant-loop-k : goal.invariant-loop-k

@@ -2,7 +2,6 @@
 use native.Mathlib.Omega.{arith}
 use Rattle.runlength.specs.Sum.{at}
 use Rattle.merge.specs.AgreeLaws.{label_state, label_signal}
-use borrow.Author.Rules.{rules}
 use Rattle.merge.proofs.rounds.label_at.Goals as goal
 
 pub returns-then-next-n : goal.returns-then-next-n

@@ -1,8 +1,6 @@
 -- `rounds::refine` meets its contract: after each turn the next leaders of the first i states are written.
 use Prim.Native.Nat.{◌-◌, ◌≤◌}
-use native.Mathlib.Omega.{arith}
 use Rattle.merge.specs.Rounds.{Refined}
-use Rattle.merge.specs.AgreeLaws.{refined_none, refined_sub, refined_fits, refined_more, refined_all}
 use Rattle.merge.proofs.rounds.refine.Given as goal
 
 abbrev pub invariant-loop-i : goal.invariant-loop-i

@@ -6,7 +6,6 @@ use borrow.Author.Tests.{not-true, not-false}
 use Rattle.rules.specs.Check.{active_rules}
 use Rattle.monitor.proofs.StepLaws.{step_bad_zone, step_bad_state, step_bad_count, step_take}
 use Rattle.monitor.specs.Take.{step_taken}
-use borrow.Author.Rules.{rules}
 use Rattle.monitor.proofs.Monitor.accepted_step.Goals as goal
 
 pub returns-then-zone : goal.returns-then-zone
@@ -28,9 +27,9 @@ returns-then-points-ge-MAX_NUMBER c =
 
 pub take-requires : goal.take-requires
 take-requires c = record {
-      len_le_max_rules = (c.requires.0, c.requires.1, omega arith, omega arith);
-      state_value = sym c.valid.ensures ∙ not-false c.valid.result c.if-not-valid.false-raw;
-    }
+  len_le_max_rules = (c.requires.0, c.requires.1, omega arith, omega arith);
+  state_value = sym c.valid.ensures ∙ not-false c.valid.result c.if-not-valid.false-raw;
+}
 
 pub returns-in-Quiet : goal.returns-in-Quiet
 returns-in-Quiet c =

@@ -1,7 +1,6 @@
 -- `Monitor::step` meets its contract: the check's refusal, or a step with accepted rules.
 use mathlib.Core.Path.{refl, sym, ◌∙◌}
 use denote.Enum.Declared.{tag_of}
-use borrow.Author.Rules.{rules}
 use Rattle.rules.proofs.CheckLaws.{accepted, is_accepted}
 use Rattle.rules.specs.contracts.Checked.{the_type}
 use Rattle.monitor.specs.Step.{step_of}

@@ -1,6 +1,5 @@
 -- `Monitor::take` meets its contract: a case of the state's move for each return.
 use mathlib.Core.Path.{sym, ◌∙◌}
-use borrow.Author.Rules.{rules}
 use Rattle.rules.specs.Check.{active_rules}
 use Rattle.monitor.proofs.StepLaws.{taken_move}
 use Rattle.monitor.proofs.Monitor.take.Goals as goal

@@ -4,7 +4,6 @@ use Prim.Native.Nat.{ℕ}
 use lib.IntN.{ℤ, pos, ◌+ℤ◌}
 use mir.Facts.{to_z-of_z}
 use native.Mathlib.Omega.{arith}
-use borrow.Author.Rules.{rules}
 use Rattle.monitor.specs.ZoneLaws.{zone_below, zone_above, zone_on}
 use Rattle.monitor.proofs.zone.zone_at.Goals as goal
 

@@ -3,15 +3,12 @@ use Prim.Native.Nat.{ℕ}
 use mathlib.Core.Path.{◌≡◌}
 use mathlib.Core.List.{List}
 use native.Mathlib.Omega.{arith}
-use mir.Syntax.{w32}
-use mir.Val.{Fits}
 use Rattle.write.specs.Wrote.{Wrote}
 use Rattle.write.specs.WroteLaws.{then}
 use Rattle.write.proofs.FieldLaws.{field_short}
 use Rattle.monitor_lines.specs.declared.lines.PointLine.{PointLine}
 use Rattle.monitor_lines.specs.declared.lines.PointLine.TheVariants.{Quiet, Signal}
 use Rattle.monitor_lines.specs.MonitorLines.{quiet_line, signal_line, point_bytes}
-use borrow.Author.Rules.{rules}
 use Rattle.monitor_lines.proofs.lines.put_point.Goals as goal
 
 module _ {a b : List ℕ} {i r : ℕ} {p : PointLine} {node n period : ℕ} where

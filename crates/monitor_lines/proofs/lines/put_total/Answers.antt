@@ -1,5 +1,4 @@
 -- `monitor_lines::put_total` meets its contract: three fields, LF.
-use borrow.Author.Rules.{rules}
 use native.Mathlib.Omega.{arith}
 use Rattle.write.specs.WroteLaws.{then}
 use Rattle.write.proofs.FieldLaws.{field_short}

@@ -2,7 +2,6 @@
 use mathlib.Core.Path.{sym, ◌∙◌}
 use Rattle.rules.specs.Check.{active_rules}
 use Rattle.monitor_report.specs.NodesLaws.{node_taken_lem}
-use borrow.Author.Rules.{rules}
 use Rattle.monitor_report.proofs.nodes.chart_point.Goals as goal
 
 pub returns-in-Quiet : goal.returns-in-Quiet

@@ -1,5 +1,4 @@
 -- `nodes::put_node` meets its contract: no line where there are no points, else the total's.
-use borrow.Author.Rules.{rules}
 use native.Mathlib.Omega.{arith}
 use Rattle.write.specs.WroteLaws.{wrote_nothing}
 use Rattle.monitor_report.specs.TotalsWrittenLaws.{no_total, one_total}

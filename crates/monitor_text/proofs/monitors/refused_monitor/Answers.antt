@@ -1,5 +1,4 @@
 -- `refused_monitor` meets its contract: the list is the empty one.
-use borrow.Author.Rules.{rules}
 use Rattle.monitor_text.specs.ReadMonitor.{refused_monitor}
 use Rattle.monitor_text.proofs.monitors.refused_monitor.Goals as goal
 

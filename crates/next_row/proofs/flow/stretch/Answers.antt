@@ -1,10 +1,7 @@
 -- `flow::stretch` meets its contract: after each turn the first t states have their new units.
-use mathlib.Core.Path.{◌≡◌, refl}
-use Prim.Native.Nat.{◌-◌, ◌≤◌}
+use mathlib.Core.Path.{refl}
 use native.Mathlib.Omega.{arith}
-use lib.ListN.{length, get_or}
 use Rattle.next_row.specs.ArrivalsLaws.{group_can, one_come}
-use Rattle.next_row.specs.OneRow.{Filled}
 use Rattle.next_row.proofs.OneRowLaws.{round_can, fill_more, fill_done, stretch_first, stretch_in, stretch_next}
 use borrow.Author.Rules.{rules}
 use Rattle.next_row.proofs.flow.stretch.Goals as goal

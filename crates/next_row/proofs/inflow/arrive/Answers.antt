@@ -1,11 +1,8 @@
 -- `inflow::arrive` meets its contract: after each turn what the groups to before g send is in the two words.
 use mathlib.Core.Path.{refl}
-use Prim.Native.Nat.{◌+◌, ◌-◌, ◌≤◌}
+use Prim.Native.Nat.{◌+◌}
 use native.Mathlib.Omega.{arith}
-use lib.ListN.{get_or}
-use Rattle.next_row.specs.Arrivals.{Arriving}
 use Rattle.next_row.specs.ArrivalsLaws.{group_can, arrive_start, arrive_more, arrive_high, arrive_low, arrive_done}
-use borrow.Author.Rules.{rules}
 use Rattle.next_row.proofs.inflow.arrive.Goals as goal
 
 pub loop-g-init : goal.loop-g-init

@@ -1,7 +1,6 @@
 -- `inflow::source_at` meets its contract: a source is a state.
 use native.Mathlib.Omega.{arith}
 use Rattle.next_row.specs.ArrivalsLaws.{read_in}
-use borrow.Author.Rules.{rules}
 use Rattle.next_row.proofs.inflow.source_at.Goals as goal
 
 pub offset_bounds-units-s : goal.offset_bounds-units-s

@@ -1,7 +1,6 @@
 -- `inflow::weigh` meets its contract.
 use native.Mathlib.Omega.{arith}
 use Rattle.next_row.specs.ArrivalsLaws.{weigh_high, weigh_low, weigh_done}
-use borrow.Author.Rules.{rules}
 use Rattle.next_row.proofs.inflow.weigh.Goals as goal
 
 pub overflow_mul-part : goal.overflow_mul-part

@@ -1,5 +1,4 @@
 -- `arrays::write_items` meets its contract: one item behind another.
-use borrow.Author.Rules.{rules}
 use Rattle.plot_arrays.proofs.arrays.write_items.Goals as goal
 
 pub returns : goal.returns

@@ -1,5 +1,4 @@
 -- `arrays::write_kinds` meets its contract.
-use borrow.Author.Rules.{rules}
 use Rattle.plot_arrays.proofs.arrays.write_kinds.Goals as goal
 
 pub returns : goal.returns

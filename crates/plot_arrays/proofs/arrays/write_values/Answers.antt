@@ -3,7 +3,6 @@ use mathlib.Core.Path.{ap}
 use mathlib.Core.List.{List}
 use lib.Ieee.{Float}
 use lib.ListN.{set}
-use borrow.Author.Rules.{rules}
 use Rattle.plot_arrays.proofs.arrays.write_values.Goals as goal
 
 pub returns : goal.returns

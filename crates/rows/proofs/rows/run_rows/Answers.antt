@@ -1,10 +1,6 @@
 -- `rows::run_rows` meets its contract: after k rows the lists, the last survival and the mean are the table's to row k.
-use mathlib.Core.Path.{◌≡◌, refl, sym, ◌∙◌}
-use Prim.Native.Nat.{◌-◌, ◌≤◌}
+use mathlib.Core.Path.{refl, sym, ◌∙◌}
 use native.Mathlib.Omega.{arith}
-use lib.ListN.{length}
-use Rattle.rules.specs.Bounds.{max_states}
-use Rattle.rows.specs.Running.{Running}
 use Rattle.rows.specs.RunningLaws.{sources_of, run_start, run_mean, run_point, run_more, run_two, run_done, put_pmf, put_survival}
 use borrow.Author.Rules.{rules}
 use Rattle.rows.proofs.rows.run_rows.Goals as goal

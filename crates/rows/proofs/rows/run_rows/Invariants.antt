@@ -1,12 +1,9 @@
 -- `rows::run_rows` meets its contract: after k rows the lists, the last survival and the mean are the table's to row k.
-use mathlib.Core.Path.{◌≡◌, refl, sym, ◌∙◌}
+use mathlib.Core.Path.{◌≡◌}
 use Prim.Native.Nat.{◌-◌, ◌≤◌}
-use native.Mathlib.Omega.{arith}
 use lib.ListN.{length}
 use Rattle.rules.specs.Bounds.{max_states}
 use Rattle.rows.specs.Running.{Running}
-use Rattle.rows.specs.RunningLaws.{sources_of, run_start, run_mean, run_point, run_more, run_two, run_done, put_pmf, put_survival}
-use borrow.Author.Rules.{rules}
 use Rattle.rows.proofs.rows.run_rows.Given as goal
 
 abbrev pub invariant-loop-k : goal.invariant-loop-k

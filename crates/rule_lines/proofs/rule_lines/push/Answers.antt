@@ -1,5 +1,4 @@
 -- `push` meets its contract: with a slot left, and without.
-use borrow.Author.Rules.{rules}
 use borrow.Author.Tests.{le-leb, lt-leb}
 use native.Mathlib.Omega.{arith}
 use Rattle.rules.specs.Bounds.{max_rules}

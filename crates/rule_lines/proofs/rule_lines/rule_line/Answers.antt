@@ -1,5 +1,4 @@
 -- `rule_line` meets its contract: three numbers, or the word alone, or neither.
-use borrow.Author.Rules.{rules}
 use mathlib.Core.Path.{sym, ◌∙◌}
 use Rattle.rule_lines.specs.RuleTurnLaws.{rule_given, rule_not_begun, rule_begun}
 use Rattle.rule_lines.proofs.rule_lines.rule_line.Goals as goal

@@ -1,10 +1,9 @@
 -- `RuleList::check` meets its contract. The invariant: what is left of the list decides as the whole does.
 use mathlib.Core.Path.{◌≡◌, refl, sym, ap, ◌∙◌}
 use mathlib.Core.Bool.{true, false}
-use Prim.Native.Nat.{◌≤◌, ◌+◌, ◌-◌}
+use Prim.Native.Nat.{◌+◌, ◌-◌}
 use native.Mathlib.Omega.{arith}
 use denote.Enum.Declared.{tag_of}
-use borrow.Author.Rules.{rules}
 use borrow.Author.Tests.{not-true, not-false}
 use Rattle.rules.specs.Bounds.{min_rules, max_rules}
 use Rattle.rules.specs.Check.{within, check_of, check_rules, rules_from, active_rules, or_else}

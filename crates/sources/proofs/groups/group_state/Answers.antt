@@ -1,10 +1,6 @@
 -- `groups::group_state` meets its contract: after z turns the groups of the first z zones stand.
-use Prim.Native.Nat.{◌-◌, ◌≤◌}
 use native.Mathlib.Omega.{arith}
-use Rattle.rules.specs.Bounds.{zone_count}
-use Rattle.sources.specs.Grouping.{GroupingState}
 use Rattle.sources.specs.GroupingLaws.{state_start, state_can, state_more, state_done}
-use borrow.Author.Rules.{rules}
 use Rattle.sources.proofs.groups.group_state.Goals as goal
 
 pub loop-z-init : goal.loop-z-init

@@ -1,6 +1,5 @@
 -- `groups::group_zone` meets its contract: a zone of no weight or with no source makes no group.
 use Rattle.sources.specs.GroupingLaws.{zone_light, zone_unmarked, zone_can, zone_size, zone_more}
-use borrow.Author.Rules.{rules}
 use Rattle.sources.proofs.groups.group_zone.Goals as goal
 
 pub returns-then-weight-eq0 : goal.returns-then-weight-eq0

@@ -1,11 +1,8 @@
 -- `groups::list_groups` meets its contract: after t turns the groups of the first t states stand.
 use lib.ListN.{length, get_or}
-use mathlib.Core.Path.{◌≡◌, refl, sym}
+use mathlib.Core.Path.{◌≡◌}
 use Prim.Native.Nat.{◌-◌, ◌≤◌}
-use native.Mathlib.Omega.{arith}
 use Rattle.sources.specs.Grouping.{Listing}
-use Rattle.sources.specs.ListLaws.{list_mark, list_start, list_last, list_can, list_fits, list_more, list_done}
-use borrow.Author.Rules.{rules}
 use Rattle.sources.proofs.groups.list_groups.Given as goal
 
 abbrev pub invariant-loop-t : goal.invariant-loop-t

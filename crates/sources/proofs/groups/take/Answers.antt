@@ -3,7 +3,6 @@ use Rattle.sources.specs.SourcesLaws.{take_room, take_more, take_none}
 use lib.ListN.{length}
 use Prim.Native.Nat.{◌<◌}
 use native.Mathlib.Omega.{arith}
-use borrow.Author.Rules.{rules}
 use Rattle.sources.proofs.groups.take.Goals as goal
 
 pub offset_bounds-sources-e : goal.offset_bounds-sources-e

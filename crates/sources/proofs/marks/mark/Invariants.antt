@@ -1,11 +1,9 @@
 -- `marks::mark` meets its contract: after k turns the first k moves have their marks.
 use Prim.Native.Nat.{◌-◌, ◌*◌}
-use mathlib.Core.Path.{◌≡◌, refl}
+use mathlib.Core.Path.{◌≡◌}
 use lib.ListN.{length}
 use Rattle.rules.specs.Bounds.{zone_count}
 use Rattle.sources.specs.Marks.{MarkedUpTo}
-use Rattle.sources.specs.MarksLaws.{mark_start, mark_can, mark_more, mark_done}
-use borrow.Author.Rules.{rules}
 use Rattle.sources.proofs.marks.mark.Given as goal
 
 abbrev pub invariant-loop-k : goal.invariant-loop-k

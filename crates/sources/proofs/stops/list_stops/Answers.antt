@@ -1,9 +1,7 @@
 -- `stops::list_stops` meets its contract: after each turn the stretches from t on have their stops.
-use Prim.Native.Nat.{◌≤◌}
-use mathlib.Core.Path.{◌≡◌, ◌∙◌}
+use mathlib.Core.Path.{◌∙◌}
 use native.Mathlib.Omega.{arith}
-use lib.ListN.{length, length-set}
-use Rattle.sources.specs.Stops.{Stops}
+use lib.ListN.{length-set}
 use Rattle.sources.specs.StopsLaws.{stops_start, stops_more, stops_done}
 use borrow.Author.Rules.{rules}
 use Rattle.sources.proofs.stops.list_stops.Goals as goal

@@ -1,11 +1,8 @@
 -- `stops::list_stops` meets its contract: after each turn the stretches from t on have their stops.
 use Prim.Native.Nat.{◌≤◌}
-use mathlib.Core.Path.{◌≡◌, ◌∙◌}
-use native.Mathlib.Omega.{arith}
-use lib.ListN.{length, length-set}
+use mathlib.Core.Path.{◌≡◌}
+use lib.ListN.{length}
 use Rattle.sources.specs.Stops.{Stops}
-use Rattle.sources.specs.StopsLaws.{stops_start, stops_more, stops_done}
-use borrow.Author.Rules.{rules}
 use Rattle.sources.proofs.stops.list_stops.Given as goal
 
 abbrev pub invariant-loop-t : goal.invariant-loop-t

@@ -1,12 +1,8 @@
 -- `zones::alike` meets its contract: after s turns the first s states are led to the same places.
 use mathlib.Core.Path.{◌≡◌}
 use Prim.Native.Nat.{ℕ, ◌+◌, ◌-◌, ◌*◌, ◌≤◌, ◌<◌}
-use native.Mathlib.Omega.{arith}
 use lib.ListN.{get_or}
-use borrow.Author.Count.{below_none, below_more}
 use Rattle.rules.specs.Bounds.{zone_count}
-use Rattle.sources.specs.AlikeZonesLaws.{alike_not, alike_all}
-use borrow.Author.Rules.{rules}
 use Rattle.sources.proofs.zones.alike.Given as goal
 
 abbrev pub invariant-loop-s : goal.invariant-loop-s

@@ -1,7 +1,5 @@
 -- `zones::first_alike` meets its contract.
 use Prim.Native.Nat.{◌-◌, ◌≤◌}
-use Rattle.sources.specs.AlikeZonesLaws.{alike_found, alike_self}
-use borrow.Author.Rules.{rules}
 use Rattle.sources.proofs.zones.first_alike.Given as goal
 
 abbrev pub invariant-loop-a : goal.invariant-loop-a

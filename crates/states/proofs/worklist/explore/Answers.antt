@@ -1,12 +1,7 @@
 -- `explore` meets its contract: after k turns the two lists hold the worklist as it is after k turns.
-use Prim.Native.Nat.{◌*◌, ◌-◌}
 use mathlib.Core.Path.{sym, ◌∙◌}
 use native.Mathlib.Omega.{arith}
-use borrow.Author.Rules.{rules}
-use Rattle.rules.specs.Bounds.{zone_count, max_states}
-use Rattle.rules.specs.Check.{active_rules}
-use Rattle.states.specs.Automata.{state_automaton}
-use Rattle.states.specs.ExploreLaws.{Exploring, explore_start, explore_done, explore_more, explore_over}
+use Rattle.states.specs.ExploreLaws.{explore_start, explore_done, explore_more, explore_over}
 use Rattle.states.specs.VisitLaws.{visit_can}
 use Rattle.states.proofs.worklist.explore.Goals as goal
 

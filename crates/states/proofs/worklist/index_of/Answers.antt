@@ -1,7 +1,6 @@
 -- `index_of` meets its contract: the index from the front is i more than the index from i on.
-use Prim.Native.Nat.{◌≤◌, ◌-◌}
 use native.Mathlib.Omega.{arith}
-use Rattle.runlength.specs.IndexLaws.{Searched, search_found, search_on, search_end}
+use Rattle.runlength.specs.IndexLaws.{search_found, search_on, search_end}
 use Rattle.states.proofs.worklist.index_of.Goals as goal
 
 pub loop-i-init : goal.loop-i-init

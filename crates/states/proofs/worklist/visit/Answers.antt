@@ -3,7 +3,6 @@ use Prim.Native.Nat.{ℕ}
 use mathlib.Core.Path.{◌≡◌, refl, sym, ◌∙◌}
 use native.Mathlib.Omega.{arith}
 use denote.Enum.Declared.{tag_of}
-use borrow.Author.Rules.{rules}
 use Rattle.window.specs.declared.Move.{Move}
 use Rattle.window.specs.declared.Move.TheVariants.{Quiet, Signal}
 use Rattle.window.specs.contracts.Move.{the_type}

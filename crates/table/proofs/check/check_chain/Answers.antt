@@ -1,10 +1,9 @@
 -- `check::check_chain` meets its contract: the rule list's refusal, or the checks of a chain whose rules are accepted.
-use mathlib.Core.Path.{◌≡◌, refl, sym, ◌∙◌}
+use mathlib.Core.Path.{refl, sym, ◌∙◌}
 use denote.Enum.Declared.{tag_of}
 use Rattle.rules.specs.contracts.Checked.{the_type}
 use Rattle.rules.proofs.CheckLaws.{is_accepted}
 use Rattle.table.proofs.ChainCheckLaws.{bad_rules}
-use borrow.Author.Rules.{rules}
 use Rattle.table.proofs.check.check_chain.Goals as goal
 
 -- auto check-checked-requires

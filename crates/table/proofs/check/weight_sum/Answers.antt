@@ -1,9 +1,7 @@
 -- `check::weight_sum` meets its contract: the weights so far, each below 2^32.
-use mathlib.Core.Path.{◌≡◌, refl, sym, ap, ◌∙◌}
-use Prim.Native.Nat.{◌≤◌, ◌*◌, ◌-◌}
+use mathlib.Core.Path.{◌≡◌, sym, ap, ◌∙◌}
 use native.Mathlib.Omega.{arith}
-use borrow.Author.Rules.{rules}
-use Rattle.rules.specs.Bounds.{zone_count, max_number}
+use Rattle.rules.specs.Bounds.{zone_count}
 use Rattle.runlength.specs.Sum.{sum, at}
 use Rattle.runlength.specs.SumLaws.{sum_zero, sum_more}
 use Rattle.table.proofs.check.weight_sum.Goals as goal

@@ -1,11 +1,8 @@
 -- `check::weight_sum` meets its contract: the weights so far, each below 2^32.
-use mathlib.Core.Path.{◌≡◌, refl, sym, ap, ◌∙◌}
+use mathlib.Core.Path.{◌≡◌}
 use Prim.Native.Nat.{◌≤◌, ◌*◌, ◌-◌}
-use native.Mathlib.Omega.{arith}
-use borrow.Author.Rules.{rules}
 use Rattle.rules.specs.Bounds.{zone_count, max_number}
 use Rattle.runlength.specs.Sum.{sum, at}
-use Rattle.runlength.specs.SumLaws.{sum_zero, sum_more}
 use Rattle.table.proofs.check.weight_sum.Given as goal
 
 abbrev pub invariant-loop-z : goal.invariant-loop-z

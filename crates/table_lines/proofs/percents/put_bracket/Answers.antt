@@ -4,7 +4,6 @@ use Rattle.write.specs.WroteLaws.{then}
 use Rattle.write.proofs.FieldLaws.{field_short}
 use Rattle.table_lines.specs.PercentLine.{bracket_fields}
 use Rattle.table_lines.specs.PercentLineLaws.{same_bracket}
-use borrow.Author.Rules.{rules}
 use Rattle.table_lines.proofs.percents.put_bracket.Goals as goal
 
 pub put_named-requires : goal.put_named-requires

@@ -3,7 +3,6 @@ use native.Mathlib.Omega.{arith}
 use Rattle.write.specs.WroteLaws.{then}
 use Rattle.write.proofs.FieldLaws.{field_short}
 use Rattle.table_lines.specs.PercentLine.{percent_line}
-use borrow.Author.Rules.{rules}
 use Rattle.table_lines.proofs.percents.put_percent.Goals as goal
 
 pub put_named-a-requires : goal.put_named-a-requires

@@ -2,7 +2,6 @@
 use native.Mathlib.Omega.{arith}
 use Rattle.write.specs.WroteLaws.{then}
 use Rattle.table_lines.specs.PercentLine.{percent_lines}
-use borrow.Author.Rules.{rules}
 use Rattle.table_lines.proofs.percents.put_percents.Goals as goal
 
 pub returns : goal.returns

@@ -1,5 +1,4 @@
 -- `table_lines::put_arl` meets its contract: three fields, LF.
-use borrow.Author.Rules.{rules}
 use native.Mathlib.Omega.{arith}
 use Rattle.write.specs.WroteLaws.{then}
 use Rattle.write.proofs.FieldLaws.{field_room_lem}

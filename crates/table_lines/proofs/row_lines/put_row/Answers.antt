@@ -1,5 +1,4 @@
 -- `table_lines::put_row` meets its contract: a number, three fields, LF.
-use borrow.Author.Rules.{rules}
 use native.Mathlib.Omega.{arith}
 use Rattle.write.specs.WroteLaws.{then}
 use Rattle.write.specs.Field.{field}

@@ -1,5 +1,4 @@
 -- `table_lines::put_standings` meets its contract: the field, LF.
-use borrow.Author.Rules.{rules}
 use native.Mathlib.Omega.{arith}
 use Rattle.write.specs.WroteLaws.{then}
 use Rattle.write.proofs.FieldLaws.{field_short}

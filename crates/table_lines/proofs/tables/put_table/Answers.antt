@@ -2,7 +2,6 @@
 use native.Mathlib.Omega.{arith}
 use Rattle.write.specs.WroteLaws.{then}
 use Rattle.table_lines.specs.TableLines.{table_bytes}
-use borrow.Author.Rules.{rules}
 use Rattle.table_lines.proofs.tables.put_table.Goals as goal
 
 pub returns : goal.returns

@@ -1,11 +1,10 @@
 -- `fields_from` meets its contract. The invariant: what is left to read decides as the whole did.
-use borrow.Author.Rules.{rules}
 use Prim.Native.Nat.{◌≤◌, ◌-◌}
-use mathlib.Core.Path.{◌≡◌, refl, sym, ◌∙◌}
+use mathlib.Core.Path.{◌≡◌}
 use mathlib.Core.List.{[]}
-use lib.ListN.{length, length-set}
+use lib.ListN.{length}
 use Rattle.text.specs.LineRead.{most_fields, fields_of, codes_from}
-use Rattle.text.specs.LineReadLaws.{rest, next_value, no_value, Clean, clean_start, clean_more, line_ends, line_goes_on}
+use Rattle.text.specs.LineReadLaws.{rest, Clean}
 use Rattle.text.proofs.lines.fields_from.Given as goal
 
 abbrev pub invariant-loop-i : goal.invariant-loop-i

@@ -1,5 +1,4 @@
 -- `parse_line` meets its contract: the word does not stand there, or what follows it is read.
-use borrow.Author.Rules.{rules}
 use mathlib.Core.Path.{sym, ◌∙◌}
 use Rattle.text.specs.LineRead.{fields_of}
 use Rattle.text.specs.LineReadLaws.{line_word, line_no_word}

@@ -1,5 +1,4 @@
 -- `one_more` meets its contract: behind a value that is not below the bound nothing counts; else the value decides.
-use borrow.Author.Rules.{rules}
 use native.Mathlib.Omega.{arith}
 use borrow.Author.Tests.{lt-ltb, le-ltb}
 use Rattle.text.proofs.runs.one_more.Goals as goal

@@ -1,10 +1,8 @@
 -- `parse_run` meets its contract. The invariant: the lines counted, and what is left to read.
-use borrow.Author.Rules.{rules}
 use Prim.Native.Nat.{◌-◌}
-use native.Mathlib.Omega.{arith}
 use lib.ListN.{length}
 use Rattle.text.specs.LineRead.{fields_of}
-use Rattle.text.specs.RunLaws.{RunUpTo, run_start, run_most, run_ahead, run_more, run_done}
+use Rattle.text.specs.RunLaws.{RunUpTo}
 use Rattle.text.proofs.runs.parse_run.Given as goal
 
 abbrev pub invariant-loop-next : goal.invariant-loop-next

@@ -1,10 +1,7 @@
 -- `weights_report::put_fields` meets its contract. Its invariant: the fields of the first i numbers are written.
-use borrow.Author.Rules.{rules}
-use Prim.Native.Nat.{◌-◌}
 use native.Mathlib.Omega.{arith}
-use lib.ListN.{length}
 use Rattle.write.proofs.FieldLaws.{field_short}
-use Rattle.weights_report.specs.FieldsWrittenLaws.{FieldsWritten, fielded_start, fielded_more, fielded_done}
+use Rattle.weights_report.specs.FieldsWrittenLaws.{fielded_start, fielded_more, fielded_done}
 use Rattle.weights_report.proofs.weight_line.put_fields.Goals as goal
 
 pub loop-i-init : goal.loop-i-init
@@ -25,6 +22,6 @@ loop-i-preserved c =
 
 pub returns : goal.returns
 returns c = record {
-      wrote = search fielded_done;
-      upper_bound = omega arith;
-    }
+  wrote = search fielded_done;
+  upper_bound = omega arith;
+}

@@ -1,5 +1,4 @@
 -- `weights_report::put_weights` meets its contract: the word, the fields of the weights, LF.
-use borrow.Author.Rules.{rules}
 use Prim.Native.Nat.{ℕ}
 use mathlib.Core.Path.{◌≡◌, ap}
 use mathlib.Core.List.{List}

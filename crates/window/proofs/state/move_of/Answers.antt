@@ -3,11 +3,9 @@ use Prim.Native.Nat.{ℕ, ◌-◌}
 use mathlib.Core.Path.{sym, ap, ◌∙◌}
 use native.Mathlib.Omega.{arith}
 use lib.ListN.{get_or}
-use borrow.Author.Rules.{rules}
 use Rattle.rules.specs.Check.{no_rule, active_rules}
 use Rattle.rules.specs.Mask.{bit}
 use Rattle.window.specs.Window.{next_window, window_holds}
-use Rattle.window.specs.Settled.{MovedFrom}
 use Rattle.window.specs.StateLaws.{bounds_cons, bounds_from, bit_le, window_small}
 use Rattle.window.specs.StateLaws.{moved_none, moved_fits, moved_more, moved_all}
 use Rattle.window.specs.MoveLaws.{move_quiet, move_signal}

@@ -1,12 +1,8 @@
 -- `state::valid_state` meets its contract. The invariant: what is left of the rules and windows decides as the whole does.
 use mathlib.Core.Path.{◌≡◌, sym, ◌∙◌}
-use Prim.Native.Nat.{◌≤◌, ◌<◌, ◌-◌}
+use Prim.Native.Nat.{◌<◌, ◌-◌}
 use native.Mathlib.Omega.{arith}
-use borrow.Author.Rules.{rules}
 use borrow.Author.Tests.{not-true, not-false}
-use Rattle.rules.specs.Check.{rules_from}
-use Rattle.rules.specs.InBounds.{AllInBounds}
-use Rattle.window.specs.State.{valid_state}
 use Rattle.window.specs.StateLaws.{valid_cons, valid_none, bounds_cons}
 use Rattle.window.proofs.state.valid_state.Goals as goal
 

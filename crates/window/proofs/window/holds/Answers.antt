@@ -5,7 +5,6 @@ use borrow.Author.Tests.{le-leb, lt-leb}
 use Rattle.rules.specs.ZoneSet.{in_zone_set}
 use Rattle.window.specs.Window.{max_age, hits_up_to}
 use Rattle.window.specs.WindowLaws.{hits_le}
-use borrow.Author.Rules.{rules}
 use Rattle.window.proofs.window.holds.Goals as goal
 
 pub overflow_add-h : goal.overflow_add-h

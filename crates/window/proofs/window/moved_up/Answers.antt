@@ -4,7 +4,6 @@ use mathlib.Core.Path.{◌≡◌}
 use native.Mathlib.Omega.{arith}
 use lib.Pow.{pow_mono, pow_pos}
 use Rattle.window.specs.Window.{max_age}
-use borrow.Author.Rules.{rules}
 use Rattle.window.proofs.window.moved_up.Goals as goal
 
 -- the shift loses nothing

@@ -3,7 +3,6 @@ use mathlib.Core.Path.{◌≡◌, sym, ◌∙◌}
 use native.Mathlib.Omega.{arith}
 use Rattle.rules.specs.ZoneSet.{in_zone_set}
 use Rattle.window.specs.SettledLaws.{hit_next, miss_holds, miss_next, miss_empty}
-use borrow.Author.Rules.{rules}
 use Rattle.window.proofs.window.settled_move.Goals as goal
 
 pub returns-then-hit-eq1 : goal.returns-then-hit-eq1

@@ -5,7 +5,6 @@ use native.Mathlib.Omega.{arith}
 use lib.Dec.{eqb}
 use borrow.Author.Tests.{le-leb, lt-leb, eq-eqb, ne_eqb}
 use Rattle.window.specs.Window.{max_age, live, hits_up_to}
-use borrow.Author.Rules.{rules}
 use Rattle.window.proofs.window.valid_window.Goals as goal
 
 pub returns-then-k-hits : goal.returns-then-k-hits

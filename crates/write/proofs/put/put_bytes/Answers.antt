@@ -1,11 +1,9 @@
 -- `write::put_bytes` meets its contract. The invariant: the first i bytes are written.
 use borrow.Author.Rules.{rules}
-use Prim.Native.Nat.{◌+◌, ◌-◌, ◌≤◌}
-use mathlib.Core.Path.{◌≡◌, refl}
+use mathlib.Core.Path.{refl}
 use native.Mathlib.Omega.{arith}
 use native.Mathlib.Nat.{add-zero}
-use lib.ListN.{length, take, length-set}
-use Rattle.write.specs.Wrote.{Wrote}
+use lib.ListN.{length-set}
 use Rattle.write.specs.WroteLaws.{wrote_nothing, wrote_next, wrote_all}
 use Rattle.write.proofs.put.put_bytes.Goals as goal
 

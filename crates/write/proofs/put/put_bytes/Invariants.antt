@@ -1,12 +1,8 @@
 -- `write::put_bytes` meets its contract. The invariant: the first i bytes are written.
-use borrow.Author.Rules.{rules}
 use Prim.Native.Nat.{◌+◌, ◌-◌, ◌≤◌}
-use mathlib.Core.Path.{◌≡◌, refl}
-use native.Mathlib.Omega.{arith}
-use native.Mathlib.Nat.{add-zero}
-use lib.ListN.{length, take, length-set}
+use mathlib.Core.Path.{◌≡◌}
+use lib.ListN.{length, take}
 use Rattle.write.specs.Wrote.{Wrote}
-use Rattle.write.specs.WroteLaws.{wrote_nothing, wrote_next, wrote_all}
 use Rattle.write.proofs.put.put_bytes.Given as goal
 
 abbrev pub invariant-loop-i : goal.invariant-loop-i

@@ -1,6 +1,4 @@
 -- `refused::put_answer` meets its contract: what the report wrote, or the line of its refusal.
-use mathlib.Core.Path.{◌≡◌, refl}
-use borrow.Author.Rules.{rules}
 use Rattle.write.proofs.PrintedLaws.{stands_written, stands_refused}
 use Rattle.write.proofs.refused.put_answer.Goals as goal
 

@@ -1,5 +1,4 @@
 -- `write::put_refused` meets its contract: two fields, LF.
-use borrow.Author.Rules.{rules}
 use native.Mathlib.Omega.{arith}
 use Rattle.write.specs.WroteLaws.{then}
 use Rattle.write.proofs.FieldLaws.{field_short}
@@ -18,6 +17,6 @@ put_byte-requires c = omega (arith, field_short)
 pub returns : goal.returns
 unfolding refused_line
 returns c = record {
-      wrote = then (then c.put_named-a.ensures c.put_field-b.ensures) c.put_byte.ensures;
-      upper_bound = omega (arith, field_short);
-    }
+  wrote = then (then c.put_named-a.ensures c.put_field-b.ensures) c.put_byte.ensures;
+  upper_bound = omega (arith, field_short);
+}
