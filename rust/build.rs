@@ -8,8 +8,17 @@ fn main() {
     let here = std::env::var("CARGO_MANIFEST_DIR").unwrap_or_default();
     let root = Path::new(&here).join("..");
     // all that the answer below depends on
-    for path in ["crates", "crates.txt", "scripts/library.sh", "target/staticlib/libcapi.a", "target/staticlib/sum"] {
+    for path in ["crates.txt", "scripts/library.sh", "target/staticlib/libcapi.a", "target/staticlib/sum"] {
         println!("cargo:rerun-if-changed={here}/../{path}");
+    }
+    // the crates, but for what was built in their folders
+    for entry in std::fs::read_dir(root.join("crates")).into_iter().flatten().flatten() {
+        for part in ["src", "specs", "proofs"] {
+            let path = entry.path().join(part);
+            if path.is_dir() {
+                println!("cargo:rerun-if-changed={}", path.display());
+            }
+        }
     }
     println!("cargo:rerun-if-changed=build.rs");
     if let Err(sentence) = library_is_there(&root) {

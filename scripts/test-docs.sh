@@ -27,15 +27,22 @@ done
 words=$(mktemp)
 trap 'rm -f "$words"' EXIT
 {
-  find crates -type f \( -name '*.antt' -o -name '*.rt' \) -exec grep -hoE "[A-Za-z0-9_'′-]+" {} +
-  find crates -printf '%f\n'
-  find crates \( -name '*.edit' -o -name '*.antt' \) -printf '%f\n' | sed -E 's/\.(edit|antt)$//'
+  find crates -name out -prune -o -type f \( -name '*.antt' -o -name '*.rt' \) -exec grep -hoE "[A-Za-z0-9_'-]+" {} +
+  find crates -name out -prune -o -printf '%f\n'
+  find crates -name out -prune -o \( -name '*.edit' -o -name '*.antt' \) -printf '%f\n' | sed -E 's/\.(edit|antt)$//'
 } | LC_ALL=C sort -u >"$words"
 # The path of a name: the letters R, M, L .. stand for the folders that the map gives them.
 path_of() {
   local whole
   whole=$(tr '\n' ' ' <"$map" | grep -oE "\`${1%%/*}\` is \`crates/[a-z_]+/specs\`" | head -n 1 | sed -E 's/.* is `(.*)`/\1/' || true)
-  if [ -n "$whole" ]; then echo "$whole/${1#*/}"; else echo "$1"; fi
+  if [ -z "$whole" ]; then
+    echo "$1"
+  elif [ -e "$whole/${1#*/}" ] || [ ! -e "${whole%/specs}/proofs/${1#*/}" ]; then
+    echo "$whole/${1#*/}"
+  else
+    # laws and claims that rest on a definition which an edit changes
+    echo "${whole%/specs}/proofs/${1#*/}"
+  fi
 }
 
 # X stands for any name.
@@ -49,7 +56,7 @@ while read -r name; do
       last=${name##*::}
       grep -qxF -- "$last" "$words" || { echo "FAILED no such name: $name"; failed=1; } ;;
   esac
-done < <(tr '\n' ' ' <"$map" | sed -E 's/```[^`]*```//g' | grep -oE '`[^`]+`' | tr -d '`' | grep -E "^[A-Za-z][A-Za-z0-9_'′:./*-]*$" | sort -u)
+done < <(tr '\n' ' ' <"$map" | sed -E 's/```[^`]*```//g' | grep -oE '`[^`]+`' | tr -d '`' | grep -E "^[A-Za-z][A-Za-z0-9_':./*-]*$" | sort -u)
 
 # Every name right before its file, `name` (`file`), or its files: it stands in one of them.
 while read -r group; do
@@ -57,7 +64,7 @@ while read -r group; do
   for file in $(grep -oE '`[^` ]+\.antt`' <<<"$group" | tr -d '`'); do
     case $file in
       */*) files+=("$(path_of "$file")") ;;
-      *) mapfile -t -O "${#files[@]}" files < <(find crates -path "*/specs/$file") ;;
+      *) mapfile -t -O "${#files[@]}" files < <(find crates -path "*/specs/$file" -o -path "crates/*/proofs/$file") ;;
     esac
   done
   for name in $(grep -oE '`[^` ]+`' <<<"$group" | tr -d '`' | grep -vE '\.antt$'); do

@@ -11,7 +11,7 @@ const RAW: &str = include_str!("../src/raw.rs");
 const SIZES: &str = concat!(env!("CARGO_MANIFEST_DIR"), "/../crates/sizes/stdout");
 
 /// The source of the exported functions.
-const SOURCE: &str = concat!(env!("CARGO_MANIFEST_DIR"), "/../crates/capi/src");
+const SOURCE: &str = concat!(env!("CARGO_MANIFEST_DIR"), "/../crates/capi_c/src");
 
 /// Names, each without the prefix of the header, and what they stand for.
 type Numbers = BTreeMap<String, u64>;
