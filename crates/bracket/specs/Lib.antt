@@ -5,6 +5,3 @@ pub mod AcceptedBracket
 pub mod Crossing
 pub mod TotalLaws
 pub mod QuotientLaws
-pub mod CrossingLaws
-pub mod RefusedLaws
-pub mod BracketLaws

@@ -4,7 +4,7 @@ use Rattle.std.proofs.Common.{ap, arith, le-leb}
 use Rattle.std.proofs.lemmas.Bool.{lt-leb}
 use Rattle.runlength.specs.Scale.{units_per_one}
 use Rattle.runlength.specs.Chain.{cdf_of}
-use Rattle.runlength.specs.CdfLaws.{cdf_more, cdf_upto}
+use Rattle.runlength.proofs.CdfLaws.{cdf_more, cdf_upto}
 
 module _ (pmf : List ℕ) where
   -- a chance over what is left: the whole list sums to more

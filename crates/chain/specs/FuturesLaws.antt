@@ -12,12 +12,12 @@ use Rattle.rules.specs.InBounds.{AllInBounds}
 use Rattle.runlength.specs.Sum.{at}
 use Rattle.runlength.specs.Automaton.{Automaton, Move, quiet, signal}
 use Rattle.runlength.specs.Future.{Alike, EqualFuture}
-use Rattle.runlength.specs.FutureLaws.{simulation_future, future_sym, future_trans}
+use Rattle.runlength.proofs.FutureLaws.{simulation_future, future_sym, future_trans}
 use Rattle.runlength.specs.Merged.{class_of, first_of}
 use Rattle.runlength.specs.Apart.{alike_for}
-use Rattle.runlength.specs.ApartLaws.{same_test_by, alike_refl, alike_fewer, future_alike}
-use Rattle.runlength.specs.ClassLaws.{same_leader, leader_future}
-use Rattle.runlength.specs.MergedLaws.{class_below, class_future, first_of_lem, merged_fewest}
+use Rattle.runlength.proofs.ApartLaws.{same_test_by, alike_refl, alike_fewer, future_alike}
+use Rattle.runlength.proofs.ClassLaws.{same_leader, leader_future}
+use Rattle.runlength.proofs.MergedLaws.{class_below, class_future, first_of_lem, merged_fewest}
 use Rattle.runlength.specs.Fewest.{HoldsStates, CanBeReached}
 use Rattle.states.specs.States.{Met, start, more, moves}
 use Rattle.states.specs.Automata.{state_automaton, reference_automaton}

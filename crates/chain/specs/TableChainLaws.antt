@@ -13,16 +13,16 @@ use Rattle.runlength.specs.SumLaws.{sum_cong}
 use Rattle.runlength.specs.Automaton.{Automaton, Move, quiet, signal, after}
 use Rattle.runlength.specs.Chain.{Proper, inflow, signalled, units, pmf, survival}
 use Rattle.runlength.specs.Future.{Alike, EqualFuture}
-use Rattle.runlength.specs.FutureLaws.{to_signal, future_trans}
-use Rattle.runlength.specs.LowestLaws.{lowest_cong}
-use Rattle.runlength.specs.ApartLaws.{same_test_by, simulation_alike}
+use Rattle.runlength.proofs.FutureLaws.{to_signal, future_trans}
+use Rattle.runlength.proofs.LowestLaws.{lowest_cong}
+use Rattle.runlength.proofs.ApartLaws.{same_test_by, simulation_alike}
 use Rattle.runlength.specs.Apart.{alike_for}
 use Rattle.runlength.specs.Merged.{leader_for, leads_for, class_count, class_of, first_of, merged_move}
-use Rattle.runlength.specs.ClassLaws.{leader_same, same_leader}
-use Rattle.runlength.specs.MergedLaws.{class_start, class_same, first_of_lem, sum_classes}
-use Rattle.runlength.specs.MergedLaws as merged
+use Rattle.runlength.proofs.ClassLaws.{leader_same, same_leader}
+use Rattle.runlength.proofs.MergedLaws.{class_start, class_same, first_of_lem, sum_classes}
+use Rattle.runlength.proofs.MergedLaws as merged
 use Rattle.runlength.specs.Fewest.{HoldsStates}
-use Rattle.runlength.specs.ListedLaws.{listed_proper, listed_holds}
+use Rattle.runlength.proofs.ListedLaws.{listed_proper, listed_holds}
 use Rattle.states.specs.States.{states, moves}
 use Rattle.states.specs.Automata.{state_automaton, reference_automaton}
 use Rattle.states.specs.AutomataLaws.{explored_reference}

@@ -15,7 +15,7 @@ use Rattle.table.specs.declared.TableFigures.{TableFigures}
 use Rattle.table.specs.declared.TableAnswer.{TableAnswer}
 use Rattle.table.specs.Table.{TableCall, rules_of, table_of, mean_of}
 use Rattle.table.specs.AcceptedTable.{AcceptedTable}
-use Rattle.table.specs.AcceptedTableLaws.{accepted_table}
+use Rattle.table.proofs.AcceptedTableLaws.{accepted_table}
 
 module _ (t : TableCall) (f : TableFigures) (accepted : (table_of t).answer ≡ TableAnswer.Accepted f) where
   call : AcceptedTable t f

@@ -15,7 +15,7 @@ use Rattle.runlength.specs.SumLaws.{sum_cong, sum_none, sum_point}
 use Rattle.runlength.specs.Automaton.{Move, quiet, signal, after}
 use Rattle.runlength.specs.Chain.{Chain, inflow, signalled, units, pmf, survival}
 use Rattle.runlength.specs.Listed.{listed_automaton, listed_chain}
-use Rattle.runlength.specs.FutureLaws.{to_signal}
+use Rattle.runlength.proofs.FutureLaws.{to_signal}
 use Rattle.runlength.specs.Future.{Alike}
 use Rattle.runlength.specs.IndexLaws.{same_test}
 

@@ -10,17 +10,17 @@ use Rattle.rules.specs.Bounds.{zone_count, max_states}
 use Rattle.rules.specs.Refusal.{bad_weights, bad_horizon, too_many_states, short_list}
 use Rattle.rules.specs.Check.{within, or_else, unless, active_rules, check_of}
 use Rattle.rules.specs.Numbers.{rule_numbers, OneOf, here, there}
-use Rattle.rules.specs.NumbersLaws.{on_both, refused_by_lem, list_number}
+use Rattle.rules.proofs.NumbersLaws.{on_both, refused_by_lem, list_number}
 use Rattle.rules.specs.Weights.{weight_list}
 use Rattle.runlength.specs.Scale.{min_horizon, max_horizon, weight_total}
 use Rattle.runlength.specs.Sum.{at, sum}
 use Rattle.chain.specs.TableChain.{explored_count}
 use Rattle.table.specs.declared.TableAnswer.{TableAnswer}
 use Rattle.table.specs.Table.{TableCall, chain_check, table_check, table_of}
-use Rattle.table.specs.TableLaws.{refused_check}
+use Rattle.table.proofs.TableLaws.{refused_check}
 use Rattle.shift.specs.declared.ShiftAnswer.TheVariants.{Accepted}
 use Rattle.shift.specs.Shift.{shift_of}
-use Rattle.shift.specs.ShiftedWeights.{weights_sum}
+use Rattle.shift.proofs.ShiftedWeights.{weights_sum}
 
 -- the table's numbers but for 8
 abbrev others : List ℕ

@@ -11,7 +11,7 @@ use Rattle.monitor.specs.Zone.{zone_of}
 use Rattle.monitor.specs.Step.{step_of}
 use Rattle.batch.specs.declared.Batch.{Batch}
 use Rattle.batch.specs.Batch.{batch_of}
-use Rattle.batch.specs.BatchLaws.{batch_refused}
+use Rattle.batch.proofs.BatchLaws.{batch_refused}
 use Rattle.table.specs.declared.TableAnswer.{TableAnswer}
 use Rattle.table.specs.Table.{TableCall, table_of}
 use Rattle.plot.specs.declared.BoxPlotAnswer.{BoxPlotAnswer}
@@ -34,8 +34,8 @@ use Rattle.capi.specs.BracketCall.{bracket_checked, bracket_after, BracketCalled
 use Rattle.capi.specs.PlotCall.{plot_checked, kinds_after, values_after, PlotCalled}
 use Rattle.capi.specs.ShiftCall.{shift_checked, weights_after, ShiftCall}
 use Rattle.capi.specs.ReportCall.{printed_checked, count_after, ReportCall}
-use Rattle.claims.specs.RefusedCallLaws.{refused_table_keeps, refused_summary_keeps, refused_plot_keeps}
-use Rattle.code_claims.specs.ExportedLaws.{batch_checked_lem}
+use Rattle.claims.proofs.RefusedCallLaws.{refused_table_keeps, refused_summary_keeps, refused_plot_keeps}
+use Rattle.code_claims.proofs.ExportedLaws.{batch_checked_lem}
 use Rattle.demands.specs.Kept.{ReportKeeps, OperationsKeep, ReportCallKeeps, ExportedKeep}
 
 -- ---- the operations

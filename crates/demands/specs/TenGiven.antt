@@ -9,7 +9,7 @@ use Rattle.runlength.specs.Sum.{at, sum}
 use Rattle.table.specs.declared.TableAnswer.{TableAnswer}
 use Rattle.table.specs.Table.{table_call, table_of}
 use Rattle.claims.specs.Counted.{TooManyStates}
-use Rattle.claims.specs.Demand1.{refused_by_10}
+use Rattle.claims.proofs.Demand1.{refused_by_10}
 use Rattle.demands.specs.TwiceInNine.{twice_in_nine}
 use Rattle.demands.specs.TenGivenLaws.{in_bounds, ten_given as ten-given-proved}
 

@@ -4,7 +4,6 @@ pub mod Newlines
 pub mod NewlineLaws
 pub mod LineValues
 pub mod NumberFields
-pub mod NumberFieldsLaws
 pub mod Form
 pub mod Grammar
 pub mod Clear
@@ -12,14 +11,3 @@ pub mod Blocks
 pub mod Read
 pub mod TextReading
 pub mod Told
-pub mod LineValuesLaws
-pub mod FormLaws
-pub mod ToldLaws
-pub mod LinesLaws
-pub mod ClearLaws
-pub mod TextStopsLaws
-pub mod TextReadingLaws
-pub mod GrammarLaws
-pub mod EveryGrammar
-pub mod BlockLaws
-pub mod TurnLaws

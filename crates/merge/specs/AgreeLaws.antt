@@ -7,9 +7,9 @@ use Rattle.rules.specs.Bounds.{zone_count, max_states}
 use Rattle.runlength.specs.Sum.{at}
 use Rattle.runlength.specs.SumLaws.{sum_zero, sum_more}
 use Rattle.runlength.specs.TabLaws.{front_none, front_more}
-use Rattle.runlength.specs.LowestLaws.{lowest_found}
+use Rattle.runlength.proofs.LowestLaws.{lowest_found}
 use Rattle.runlength.specs.Apart.{all_of}
-use Rattle.runlength.specs.ApartLaws.{all_fails}
+use Rattle.runlength.proofs.ApartLaws.{all_fails}
 use Rattle.merge.specs.Rounds.{label_of, agreeing, next_leader, Skips, Refinable, Refined}
 
 -- ---- a label

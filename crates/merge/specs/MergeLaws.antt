@@ -8,11 +8,11 @@ use Rattle.runlength.specs.Sum.{at}
 use Rattle.runlength.specs.TabLaws.{length_tab, get_d_tab}
 use Rattle.runlength.specs.Automaton.{Move, quiet, signal, after}
 use Rattle.runlength.specs.Listed.{entry_move, listed_automaton}
-use Rattle.runlength.specs.ListedLaws.{entry_in}
+use Rattle.runlength.proofs.ListedLaws.{entry_in}
 use Rattle.runlength.specs.Future.{EqualFuture}
-use Rattle.runlength.specs.FutureLaws.{simulation_future, future_sym, future_trans, SameBelow, same_simulation}
+use Rattle.runlength.proofs.FutureLaws.{simulation_future, future_sym, future_trans, SameBelow, same_simulation}
 use Rattle.runlength.specs.Merged.{class_of, first_of, merged_move, merged_automaton}
-use Rattle.runlength.specs.MergedLaws.{class_below, count_most, first_of_lem, merged_future}
+use Rattle.runlength.proofs.MergedLaws.{class_below, count_most, first_of_lem, merged_future}
 use Rattle.merge.specs.Merge.{entry_of, given_automaton, merged_count, merged_moves}
 
 module _ (n : ℕ) (m : List ℕ) where

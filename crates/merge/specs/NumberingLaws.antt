@@ -11,9 +11,9 @@ use Rattle.runlength.specs.TabLaws.{get_d_tab, tab_cong}
 use Rattle.runlength.specs.Automaton.{quiet, signal, after}
 use Rattle.runlength.specs.Listed.{entry_move}
 use Rattle.runlength.specs.Merged.{lead_before, leader_for, leaders_for, class_count, class_of, first_of, merged_move}
-use Rattle.runlength.specs.LeadLaws.{lead_one, lead_none, lead_less, lead_most, lead_cong}
-use Rattle.runlength.specs.ClassLaws.{leader_most, leader_leads}
-use Rattle.runlength.specs.MergedLaws.{class_leads, count_most, first_of_lem}
+use Rattle.runlength.proofs.LeadLaws.{lead_one, lead_none, lead_less, lead_most, lead_cong}
+use Rattle.runlength.proofs.ClassLaws.{leader_most, leader_leads}
+use Rattle.runlength.proofs.MergedLaws.{class_leads, count_most, first_of_lem}
 use Rattle.merge.specs.Merge.{entry_of, given_automaton, merged_count, merged_moves, Mergeable}
 use Rattle.merge.specs.Rounds.{label_of, next_leader, HasRoom, HoldsLeaders}
 use Rattle.merge.specs.RoundsLaws.{none_held, next_leader_lem}

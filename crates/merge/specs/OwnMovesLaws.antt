@@ -8,15 +8,15 @@ use Rattle.runlength.specs.Sum.{at, tab}
 use Rattle.runlength.specs.TabLaws.{tab_cong}
 use Rattle.runlength.specs.Automaton.{Move, quiet, signal, after}
 use Rattle.runlength.specs.Listed.{entry_move}
-use Rattle.runlength.specs.ListedLaws.{entry_in}
+use Rattle.runlength.proofs.ListedLaws.{entry_in}
 use Rattle.runlength.specs.Future.{Simulation}
-use Rattle.runlength.specs.FutureLaws.{SameBelow, same_simulation}
-use Rattle.runlength.specs.LowestLaws.{lowest_cong}
-use Rattle.runlength.specs.ApartLaws.{simulation_alike}
+use Rattle.runlength.proofs.FutureLaws.{SameBelow, same_simulation}
+use Rattle.runlength.proofs.LowestLaws.{lowest_cong}
+use Rattle.runlength.proofs.ApartLaws.{simulation_alike}
 use Rattle.runlength.specs.Merged.{leader_for, leaders_for, class_count, class_of, first_of, merged_move}
-use Rattle.runlength.specs.LeadLaws.{lead_cong}
-use Rattle.runlength.specs.ClassLaws.{leader_most}
-use Rattle.runlength.specs.MergedLaws.{first_of_lem}
+use Rattle.runlength.proofs.LeadLaws.{lead_cong}
+use Rattle.runlength.proofs.ClassLaws.{leader_most}
+use Rattle.runlength.proofs.MergedLaws.{first_of_lem}
 use Rattle.merge.specs.Merge.{entry_of, given_automaton, merged_count, merged_moves}
 use Rattle.merge.specs.MergeLaws.{given_closed}
 

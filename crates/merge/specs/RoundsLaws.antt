@@ -7,11 +7,11 @@ use Rattle.runlength.specs.TabLaws.{front_at}
 use Rattle.runlength.specs.SumLaws.{sum_term}
 use Rattle.runlength.specs.Automaton.{quiet, signal}
 use Rattle.runlength.specs.Listed.{entry_move}
-use Rattle.runlength.specs.LowestLaws.{lowest_cong, lowest_zero}
+use Rattle.runlength.proofs.LowestLaws.{lowest_cong, lowest_zero}
 use Rattle.runlength.specs.Apart.{alike_moves, alike_for}
-use Rattle.runlength.specs.ApartLaws.{same_test_by, all_cong}
+use Rattle.runlength.proofs.ApartLaws.{same_test_by, all_cong}
 use Rattle.runlength.specs.Merged.{leader_for}
-use Rattle.runlength.specs.ClassLaws.{leader_lowest, leader_most, same_leader, leader_same, leader_later, same_settled, settled_leader}
+use Rattle.runlength.proofs.ClassLaws.{leader_lowest, leader_most, same_leader, leader_same, leader_later, same_settled, settled_leader}
 use Rattle.merge.specs.Merge.{given_automaton}
 use Rattle.merge.specs.MergeLaws.{given_closed}
 use Rattle.merge.specs.Rounds.{label_of, agreeing, next_leader, HasRoom, Skips, HoldsLeaders, Refinable, Refined}

@@ -2,12 +2,7 @@ pub mod Zone
 pub mod ZoneLaws
 pub mod Step
 pub mod Take
-pub mod StepLaws
 pub mod Calls
-pub mod CallLaws
-pub mod AgreementLaws
-pub mod TakeLaws
 pub mod Reading
-pub mod ReadingLaws
 pub mod Zones
 pub mod ZonesLaws

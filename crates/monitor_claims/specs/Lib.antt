@@ -1,21 +1,5 @@
 -- What the monitor program prints, from bytes to bytes: definitions, laws, claims.
 pub mod MonitorTexts
-pub mod MonitorBytesLaws
-pub mod MonitorBytes
 pub mod MonitorOutput
-pub mod MonitorProgramLaws
-pub mod MonitorProgram
 pub mod MonitorLinesLaws
-pub mod MonitorPrintedOnceLaws
-pub mod MonitorPrintedOnce
 pub mod NodeLines
-pub mod NodeLinesLaws
-pub mod NodeBytesLaws
-pub mod IsolationLaws
-pub mod Isolation
-pub mod OneNodeLaws
-pub mod OneNode
-pub mod PeriodsLaws
-pub mod Periods
-pub mod MonitorNumbersLaws
-pub mod MonitorNumbers

@@ -6,4 +6,3 @@ pub mod TotalsWrittenLaws
 pub mod BenchWritten
 pub mod PointsLaws
 pub mod MonitorReport
-pub mod MonitorReportLaws

@@ -20,8 +20,8 @@ use Rattle.monitor.specs.declared.Taken.{Taken}
 use Rattle.window.specs.declared.Move.{Move}
 use Rattle.monitor_report.specs.declared.nodes.Node.{Node}
 use Rattle.monitor_lines.specs.MonitorLines.{point_bytes}
-use Rattle.monitor.specs.TakeLaws.{taken_valid}
-use Rattle.window.specs.GivenLaws.{fresh_valid}
+use Rattle.monitor.proofs.TakeLaws.{taken_valid}
+use Rattle.window.proofs.GivenLaws.{fresh_valid}
 use Rattle.monitor_report.specs.Points.{signals_in, node_total, line_of}
 use Rattle.monitor_report.specs.Nodes.{node_point, node_taken, taken_after, node_after, total_of}
 

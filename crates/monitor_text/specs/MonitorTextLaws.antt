@@ -15,13 +15,13 @@ use Rattle.grammar.specs.Form.{bytes_said, Says, line, saying}
 use Rattle.grammar.specs.Grammar.{one, many, Contents, many_lines, lines_of, bytes_of_all}
 use Rattle.grammar.specs.Clear.{Clear}
 use Rattle.grammar.specs.Size.{max_text}
-use Rattle.grammar.specs.FormLaws.{Look, looked}
-use Rattle.grammar.specs.TextReadingLaws.{many_stand}
+use Rattle.grammar.proofs.FormLaws.{Look, looked}
+use Rattle.grammar.proofs.TextReadingLaws.{many_stand}
 use Rattle.grammar.specs.TextReading.{seen, many_at, after_many}
 use Rattle.grammar.specs.Read.{Seen, found, other}
 use Rattle.grammar.specs.TextReading.{also, read_at, read_text}
 use Rattle.grammar.specs.Read.{Reading, read, stopped, long}
-use Rattle.grammar.specs.BlockLaws.{read_line, read_other, read_many, read_end, read_more, other_word, word_inside, none_of_many}
+use Rattle.grammar.proofs.BlockLaws.{read_line, read_other, read_many, read_end, read_more, other_word, word_inside, none_of_many}
 use Rattle.text.specs.declared.lines.LineRead.{LineRead}
 use Rattle.text.specs.declared.runs.Run.{Run}
 use Rattle.text.specs.LineRead.{slots_of, codes, line_read_at}

@@ -2,4 +2,3 @@
 pub mod Arrivals
 pub mod ArrivalsLaws
 pub mod OneRow
-pub mod OneRowLaws

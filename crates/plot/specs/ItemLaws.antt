@@ -6,7 +6,7 @@ use Rattle.std.specs.Float.Ieee.Exact.{HasValue}
 use Rattle.runlength.specs.Scale.{max_horizon, units_per_one, percents_per_one}
 use Rattle.runlength.specs.Chain.{cdf_of}
 use Rattle.runlength.specs.Percentile.{least, Percentile}
-use Rattle.runlength.specs.PercentileLaws.{least_percentile, percentile_least}
+use Rattle.runlength.proofs.PercentileLaws.{least_percentile, percentile_least}
 use Rattle.bracket.specs.declared.Bracket.TheVariants as bracket
 use Rattle.bracket.specs.Bracket.{passes, low_test, high_test, bracket_by, percentile_bracket}
 use Rattle.plot.specs.Double.{nearest_to}

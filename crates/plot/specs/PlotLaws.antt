@@ -11,7 +11,7 @@ use Rattle.summary.specs.declared.SummaryAnswer.{SummaryAnswer}
 use Rattle.summary.specs.declared.SummaryAnswer.TheVariants as summary
 use Rattle.summary.specs.Summary.{summary_by, summary_of}
 use Rattle.summary.specs.AcceptedSummary.{AcceptedSummary}
-use Rattle.summary.specs.SummaryLaws.{accepted_summary}
+use Rattle.summary.proofs.SummaryLaws.{accepted_summary}
 use Rattle.plot.specs.declared.PlotRecord.{PlotRecord}
 use Rattle.plot.specs.declared.BoxPlotAnswer.{BoxPlotAnswer}
 use Rattle.plot.specs.DoubleLaws.{exact}

@@ -11,8 +11,8 @@ use Rattle.runlength.specs.SumLaws.{sum_zero, sum_more, sum_cong, sum_term, sum_
 use Rattle.runlength.specs.TabLaws.{front_none, front_more}
 use Rattle.runlength.specs.Automaton.{after}
 use Rattle.runlength.specs.Chain.{Chain, Proper, inflow, signalled, units, pmf, survival, restricted_mean}
-use Rattle.runlength.specs.ListedLaws.{listed_proper}
-use Rattle.runlength.specs.FlowLaws.{step_conservation}
+use Rattle.runlength.proofs.ListedLaws.{listed_proper}
+use Rattle.runlength.proofs.FlowLaws.{step_conservation}
 use Rattle.runlength.specs.Scale.{weight_total, units_per_one}
 use Rattle.runlength.specs.SetLaws.{get_d_zeros}
 use Rattle.sources.specs.Sources.{come, CanListSources, SourcesListed}

@@ -5,7 +5,7 @@ use Rattle.rules.specs.declared.Rule.{Rule}
 use Rattle.rules.specs.declared.Checked.TheVariants.{Accepted}
 use Rattle.rules.specs.Bounds.{max_rules}
 use Rattle.rules.specs.Check.{no_rule, rules_from, active_rules, check_of}
-use Rattle.rules.specs.CheckLaws.{accepted}
+use Rattle.rules.proofs.CheckLaws.{accepted}
 use Rattle.grammar.specs.Form.{Says}
 use Rattle.rule_lines.specs.Rules.{rule_line, rule_said, rule_values, rules_said, slots_of, rule_list_of, pushed}
 

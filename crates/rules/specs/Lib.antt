@@ -8,6 +8,4 @@ pub mod Weights
 pub mod Check
 pub mod Ready
 pub mod InBounds
-pub mod CheckLaws
 pub mod Numbers
-pub mod NumbersLaws

@@ -3,9 +3,4 @@ pub mod Shift
 pub mod Shifted
 pub mod Below
 pub mod NeighbourLaws
-pub mod AreaLaws
-pub mod NormalArea
 pub mod DifferenceLaws
-pub mod BelowLaws
-pub mod ShiftLaws
-pub mod ShiftedWeights

@@ -10,14 +10,14 @@ use Rattle.window.specs.declared.Move.TheVariants.{Quiet, Signal}
 use Rattle.window.specs.State.{empty_state, state_mask, next_state}
 use Rattle.window.specs.Settled.{CanBeGiven}
 use Rattle.window.specs.MoveLaws.{move_quiet, move_signal}
-use Rattle.window.specs.GivenLaws.{empty_given, quiet_given}
+use Rattle.window.proofs.GivenLaws.{empty_given, quiet_given}
 use Rattle.window.specs.ReferenceChart.{row_mask}
 use Rattle.window.specs.RowState.{state_of_row}
-use Rattle.window.specs.RowLaws.{move_of_row, empty_row_state}
+use Rattle.window.proofs.RowLaws.{move_of_row, empty_row_state}
 use Rattle.runlength.specs.Automaton.{quiet, signal}
 use Rattle.runlength.specs.Listed.{listed_automaton}
 use Rattle.runlength.specs.Future.{Alike, EqualFuture, Simulation}
-use Rattle.runlength.specs.FutureLaws.{simulation_future, future_sym, future_trans}
+use Rattle.runlength.proofs.FutureLaws.{simulation_future, future_sym, future_trans}
 use Rattle.states.specs.States.{Met, start, more, states, moves}
 use Rattle.states.specs.StatesLaws.{explored_future}
 use Rattle.states.specs.Automata.{automaton_move, state_automaton, reference_automaton}

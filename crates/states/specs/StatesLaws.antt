@@ -5,7 +5,7 @@ use Rattle.rules.specs.Bounds.{max_states}
 use Rattle.runlength.specs.Automaton.{Automaton, Move, quiet, signal}
 use Rattle.runlength.specs.Listed.{entry_move, listed_automaton}
 use Rattle.runlength.specs.Future.{Alike, EqualFuture, Simulation}
-use Rattle.runlength.specs.FutureLaws.{simulation_future}
+use Rattle.runlength.proofs.FutureLaws.{simulation_future}
 use Rattle.states.specs.States.{Met, start, more, explored, states, moves}
 use Rattle.runlength.specs.Index.{Distinct, At}
 use Rattle.states.specs.StateList.{Entry, AllMet, HasAllMet, Right}

@@ -2,4 +2,3 @@
 pub mod Summary
 pub mod ErrorBoundLaws
 pub mod AcceptedSummary
-pub mod SummaryLaws

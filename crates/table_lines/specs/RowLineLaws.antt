@@ -5,7 +5,7 @@ use Rattle.write.specs.Wrote.{Wrote}
 use Rattle.write.specs.PartsWritten.{joined}
 use Rattle.write.specs.PartsWrittenLaws.{parts_start, parts_more, parts_done}
 use Rattle.runlength.specs.Chain.{cdf_of}
-use Rattle.runlength.specs.CdfLaws.{cdf_zero, cdf_more, cdf_upto}
+use Rattle.runlength.proofs.CdfLaws.{cdf_zero, cdf_more, cdf_upto}
 use Rattle.table_lines.specs.RowLine.{row_line, row_room, table_rows}
 use Rattle.table_lines.specs.RowsWritten.{row_after, RowsWritten}
 

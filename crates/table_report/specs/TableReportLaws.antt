@@ -10,7 +10,7 @@ use Rattle.summary.specs.declared.Summary.{Summary}
 use Rattle.summary.specs.declared.SummaryAnswer.{SummaryAnswer}
 use Rattle.summary.specs.Summary.{summary_of}
 use Rattle.summary.specs.AcceptedSummary.{AcceptedSummary}
-use Rattle.summary.specs.SummaryLaws.{accepted_summary}
+use Rattle.summary.proofs.SummaryLaws.{accepted_summary}
 use Rattle.write.specs.Wrote.{Wrote}
 use Rattle.table_text.specs.declared.TableText.{TableText}
 use Rattle.table_text.specs.TableText.{table_text}
@@ -18,7 +18,7 @@ use Rattle.table_lines.specs.LargestHorizon.{max_rows}
 use Rattle.table_lines.specs.TableLines.{table_bytes}
 use Rattle.write.specs.declared.ReportAnswer.TheVariants.{Written, Refused}
 use Rattle.write.specs.Printed.{report, report_of}
-use Rattle.write.specs.PrintedLaws.{as_refused, as_written}
+use Rattle.write.proofs.PrintedLaws.{as_refused, as_written}
 use Rattle.table_lines.specs.LargestHorizon.{report_horizon}
 use Rattle.table_report.specs.TableReport.{summary_lines, blank, table_printed}
 use Rattle.table.specs.Table.{CallResult, call_result}

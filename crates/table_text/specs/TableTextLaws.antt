@@ -11,7 +11,7 @@ use Rattle.rules.specs.Refusal.{not_refused, bad_line, too_long}
 use Rattle.decimal.specs.declared.word.Found.TheVariants.{At, Absent}
 use Rattle.grammar.specs.LineValues.{number}
 use Rattle.grammar.specs.NumberFields.{numbers, numbers_in}
-use Rattle.grammar.specs.NumberFieldsLaws.{numbers_length}
+use Rattle.grammar.proofs.NumberFieldsLaws.{numbers_length}
 use Rattle.grammar.specs.Form.{Says, line}
 use Rattle.grammar.specs.Grammar.{one, many, Contents}
 use Rattle.grammar.specs.Clear.{Clear}
@@ -20,7 +20,7 @@ use Rattle.grammar.specs.TextReading.{seen, many_at, after_many}
 use Rattle.grammar.specs.Read.{found, other}
 use Rattle.grammar.specs.TextReading.{also, read_at, read_text}
 use Rattle.grammar.specs.Read.{Reading, read, stopped, long}
-use Rattle.grammar.specs.BlockLaws.{read_line, read_other, read_many, read_end, read_more, other_word}
+use Rattle.grammar.proofs.BlockLaws.{read_line, read_other, read_many, read_end, read_more, other_word}
 use Rattle.text.specs.declared.lines.LineRead.{LineRead}
 use Rattle.text.specs.LineRead.{most_fields, slots_of, codes, line_read_at}
 use Rattle.text.specs.LineReadLaws.{SeenLine, line_seen, line_none, codes_numbers, places_full}

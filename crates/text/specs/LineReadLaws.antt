@@ -17,7 +17,7 @@ use Rattle.grammar.specs.NumberFields.{numbers, numbers_in}
 use Rattle.grammar.specs.Form.{named, line}
 use Rattle.grammar.specs.TextReading.{on_seen, value_at, values_from, values_at, seen_kind, seen}
 use Rattle.grammar.specs.Read.{Seen, found, other}
-use Rattle.grammar.specs.FormLaws.{seen_fits}
+use Rattle.grammar.proofs.FormLaws.{seen_fits}
 use Rattle.text.specs.declared.lines.LineRead.{LineRead}
 use Rattle.text.specs.LineRead.{most_fields, field_of, fields_of, code, codes, slots_of, line_read, no_line, line_of, line_read_at, code_at, codes_from}
 

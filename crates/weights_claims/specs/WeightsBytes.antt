@@ -6,7 +6,7 @@ use Rattle.rules.specs.Refusal.{bad_line, too_long}
 use Rattle.grammar.specs.Grammar.{Contents, Stops}
 use Rattle.grammar.specs.Size.{max_text}
 use Rattle.grammar.specs.Read.{too_long_lem, wrong, right}
-use Rattle.grammar.specs.EveryGrammar.{contents_once, is_reading}
+use Rattle.grammar.proofs.EveryGrammar.{contents_once, is_reading}
 use Rattle.weights_report.specs.ShiftText.{shift_grammar, refused_shift, read_shift, shift_by, shift_text}
 use Rattle.weights_report.specs.ShiftTextLaws.{clear_shift}
 use Rattle.weights_claims.specs.WeightsTexts.{ShiftTextIs}

@@ -12,7 +12,7 @@ use Rattle.grammar.specs.Size.{max_text}
 use Rattle.grammar.specs.TextReading.{read_text}
 use Rattle.grammar.specs.Read.{Reading}
 use Rattle.grammar.specs.Read.{ReadingIs, too_long_lem, wrong, right}
-use Rattle.grammar.specs.EveryGrammar.{reading_is}
+use Rattle.grammar.proofs.EveryGrammar.{reading_is}
 use Rattle.weights_report.specs.declared.shifts.ShiftText.{ShiftText}
 use Rattle.weights_report.specs.ShiftText.{shift_word, shift_grammar, read_shift, shift_by, shift_text}
 use Rattle.weights_report.specs.ShiftTextLaws.{clear_shift}

@@ -9,18 +9,18 @@ use Rattle.rules.specs.Refusal.{bad_line}
 use Rattle.decimal.specs.Word.{newline}
 use Rattle.decimal.specs.Fields.{fields}
 use Rattle.grammar.specs.NumberFields.{numbers_in}
-use Rattle.grammar.specs.NumberFieldsLaws.{numbers_length, values_fields}
+use Rattle.grammar.proofs.NumberFieldsLaws.{numbers_length, values_fields}
 use Rattle.grammar.specs.Form.{line, saying}
 use Rattle.grammar.specs.Size.{max_text}
 use Rattle.grammar.specs.Blocks.{Begins, here}
-use Rattle.grammar.specs.TextStopsLaws.{stops_by}
+use Rattle.grammar.proofs.TextStopsLaws.{stops_by}
 use Rattle.table_text.specs.TableGrammar.{weights_word, weights_line, table_grammar}
 use Rattle.table_text.specs.ReadTable.{refused_table}
 use Rattle.table_text.specs.TableTextLaws.{clear_table}
 use Rattle.write.specs.Refused.{refused_line}
 use Rattle.write.specs.Printed.{printed_bytes}
 use Rattle.table_report.specs.TableReport.{table_printed}
-use Rattle.table_claims.specs.TableBytes.{table_stopped}
+use Rattle.table_claims.proofs.TableBytes.{table_stopped}
 use Rattle.text_claims.specs.LineOnceLaws.{line_once}
 use Rattle.weights_claims.specs.WeightsTexts.{weights_bytes}
 

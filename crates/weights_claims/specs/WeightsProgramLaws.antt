@@ -9,18 +9,18 @@ use Rattle.rules.specs.Weights.{weight_list}
 use Rattle.shift.specs.declared.ShiftAnswer.TheVariants.{Accepted, Refused}
 use Rattle.shift.specs.Shift.{max_shift, weights_of, shift_of}
 use Rattle.shift.specs.Shifted.{Shifted, Whole}
-use Rattle.shift.specs.ShiftedWeights.{shift_accepted, weights_shifted}
+use Rattle.shift.proofs.ShiftedWeights.{shift_accepted, weights_shifted}
 use Rattle.decimal.specs.Fields.{fields, AllUnsigned, none, one}
 use Rattle.decimal.specs.Word.{newline}
-use Rattle.grammar.specs.NumberFieldsLaws.{in_values, values_fields, values_fit}
+use Rattle.grammar.proofs.NumberFieldsLaws.{in_values, values_fields, values_fit}
 use Rattle.grammar.specs.Form.{line_bytes, line, saying}
 use Rattle.grammar.specs.Grammar.{one as oneLine, many, Contents, lines_of, bytes_of_all, AllFit, TextIs}
 use Rattle.grammar.specs.Size.{max_text}
 use Rattle.grammar.specs.TextReading.{read_text, seen}
 use Rattle.grammar.specs.Read.{Reading, found}
 use Rattle.grammar.specs.Read.{ReadingIs, too_long_lem as reading-too-long, wrong, right}
-use Rattle.grammar.specs.FormLaws.{stands_of, stands_seen}
-use Rattle.grammar.specs.EveryGrammar.{reading_is}
+use Rattle.grammar.proofs.FormLaws.{stands_of, stands_seen}
+use Rattle.grammar.proofs.EveryGrammar.{reading_is}
 use Rattle.rule_lines.specs.Rules.{rule_line, rule_values}
 use Rattle.table_text.specs.TableGrammar.{weights_word, weights_line, horizon_line}
 use Rattle.write.specs.Refused.{refused_line}

@@ -7,7 +7,7 @@ use Rattle.rules.specs.Refusal.{bad_weights}
 use Rattle.rules.specs.Weights.{weight_list}
 use Rattle.table.specs.Table.{chain_check}
 use Rattle.shift.specs.Shift.{max_shift, weights_of}
-use Rattle.shift.specs.ShiftedWeights.{shift_accepted}
+use Rattle.shift.proofs.ShiftedWeights.{shift_accepted}
 use Rattle.grammar.specs.Grammar.{one, many, TextIs}
 use Rattle.grammar.specs.Size.{max_text}
 use Rattle.table_text.specs.TableGrammar.{horizon_line}
@@ -19,9 +19,9 @@ use Rattle.table_report.specs.TableReport.{table_printed}
 use Rattle.weights_report.specs.WeightsReport.{weights_printed}
 use Rattle.claims.specs.ShiftedCore.{chain_never_eight}
 use Rattle.table_claims.specs.TableOutput.{TableRefusal, TableProgram, refuses, prints, too_long_lem, bad_line_lem, bad_table}
-use Rattle.table_claims.specs.TableBytes.{table_text_once}
-use Rattle.table_claims.specs.TableProgram.{table_program}
-use Rattle.table_claims.specs.TablePrintedOnceLaws.{table_not_refused}
+use Rattle.table_claims.proofs.TableBytes.{table_text_once}
+use Rattle.table_claims.proofs.TableProgram.{table_program}
+use Rattle.table_claims.proofs.TablePrintedOnceLaws.{table_not_refused}
 use Rattle.text_claims.specs.NumbersApartLaws.{refused_number}
 use Rattle.weights_claims.specs.WeightsTexts.{ShiftTextIs}
 use Rattle.weights_claims.specs.WeightsProgram.{weights_then_rules}

@@ -6,7 +6,7 @@ use Rattle.decimal.specs.Fields.{field, fields}
 use Rattle.decimal.specs.FieldsLaws.{fields_snoc}
 use Rattle.write.specs.Wrote.{Wrote}
 use Rattle.write.specs.Field.{short_field}
-use Rattle.write.specs.FieldLaws.{field_short}
+use Rattle.write.proofs.FieldLaws.{field_short}
 use Rattle.write.specs.PartsWritten.{joined, PartsWritten}
 use Rattle.write.specs.PartsWrittenLaws.{parts_start, parts_more, parts_done}
 

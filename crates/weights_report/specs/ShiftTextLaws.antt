@@ -15,7 +15,7 @@ use Rattle.grammar.specs.Clear.{Clear}
 use Rattle.grammar.specs.Size.{max_text}
 use Rattle.grammar.specs.TextReading.{also, read_at, read_text}
 use Rattle.grammar.specs.Read.{Reading, stopped, long}
-use Rattle.grammar.specs.BlockLaws.{read_line, read_other, read_end, read_more}
+use Rattle.grammar.proofs.BlockLaws.{read_line, read_other, read_end, read_more}
 use Rattle.text.specs.declared.lines.LineRead.{LineRead}
 use Rattle.text.specs.LineRead.{slots_of, codes, line_read_at}
 use Rattle.text.specs.LineReadLaws.{SeenLine, line_seen, line_none}

@@ -7,9 +7,6 @@ pub mod ForgetLaws
 pub mod StateLaws
 pub mod SettledLaws
 pub mod CanStand
-pub mod ValidLaws
 pub mod ReferenceChart
 pub mod MoveLaws
 pub mod RowState
-pub mod RowLaws
-pub mod GivenLaws

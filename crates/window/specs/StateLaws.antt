@@ -5,7 +5,7 @@ use Rattle.std.proofs.Math.Nat.{pow-le-pow_right, pow-succ'}
 use Rattle.rules.specs.declared.Rule.{Rule}
 use Rattle.rules.specs.Bounds.{max_rules}
 use Rattle.rules.specs.Check.{no_rule, rules_from}
-use Rattle.rules.specs.CheckLaws.{rules_cons, rules_none}
+use Rattle.rules.proofs.CheckLaws.{rules_cons, rules_none}
 use Rattle.rules.specs.InBounds.{InBounds, AllInBounds}
 use Rattle.rules.specs.Mask.{bit, mask_of}
 use Rattle.rules.specs.ZoneSet.{in_zone_set}

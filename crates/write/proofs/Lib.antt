@@ -1,1 +1,3 @@
 mod Tenth
+pub mod FieldLaws
+pub mod PrintedLaws

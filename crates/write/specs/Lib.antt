@@ -5,8 +5,6 @@ pub mod PartsWritten
 pub mod PartsWrittenLaws
 pub mod NumberRoom
 pub mod Field
-pub mod FieldLaws
 pub mod Refused
 pub mod Printed
 pub mod AnswerStands
-pub mod PrintedLaws

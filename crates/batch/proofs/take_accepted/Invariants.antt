@@ -12,7 +12,7 @@ use mir.Facts.{to_z-of_z}
 use borrow.Author.Rules.{rules}
 use Rattle.rules.specs.declared.RuleList.{RuleList}
 use Rattle.rules.specs.Check.{active_rules}
-use Rattle.rules.specs.CheckLaws.{accepted, between}
+use Rattle.rules.proofs.CheckLaws.{accepted, between}
 use Rattle.monitor.specs.declared.Monitor.{Monitor}
 use Rattle.monitor.specs.declared.Taken.{Taken}
 use Rattle.monitor.specs.Reading.{point_at}
@@ -21,7 +21,7 @@ use Rattle.monitor.specs.Zone.{min_sigma, max_sigma, zone_at}
 use Rattle.monitor.specs.ZoneLaws.{zone_exists}
 use Rattle.batch.specs.declared.Batch.{Batch}
 use Rattle.batch.specs.Batch.{readings_from, Left}
-use Rattle.batch.specs.BatchLaws.{left_all, left_none, left_full, left_signal, left_quiet}
+use Rattle.batch.proofs.BatchLaws.{left_all, left_none, left_full, left_signal, left_quiet}
 use Rattle.batch.proofs.take_accepted.Given as goal
 
 abbrev pub invariant-loop-i : goal.invariant-loop-i

@@ -6,11 +6,11 @@ use mir.Facts.{to_z-of_z}
 use denote.Enum.Declared.{tag_of}
 use borrow.Author.Rules.{rules}
 use borrow.Author.Tests.{not-true, not-false}
-use Rattle.rules.specs.CheckLaws.{accepted, is_accepted}
+use Rattle.rules.proofs.CheckLaws.{accepted, is_accepted}
 use Rattle.rules.specs.contracts.Checked.{the_type}
 use Rattle.monitor.specs.Reading.{Readable}
 use Rattle.batch.specs.Batch.{readings_from}
-use Rattle.batch.specs.BatchLaws.{rules_refused, sigma_refused, state_refused, count_refused, batch_taken}
+use Rattle.batch.proofs.BatchLaws.{rules_refused, sigma_refused, state_refused, count_refused, batch_taken}
 use Rattle.batch.proofs.take_readings.Goals as goal
 
 -- auto check-checked-requires

@@ -3,7 +3,7 @@ use mathlib.Core.Path.{sym, ap}
 use native.Mathlib.Omega.{arith}
 use borrow.Author.Rules.{rules}
 use Rattle.bracket.specs.Crossing.{option_of}
-use Rattle.bracket.specs.BracketLaws.{by_neither, by_low, by_equal, by_unequal}
+use Rattle.bracket.proofs.BracketLaws.{by_neither, by_low, by_equal, by_unequal}
 use Rattle.bracket.proofs.Tags.{is_never}
 use Rattle.bracket.proofs.bracket_by.Goals as goal
 

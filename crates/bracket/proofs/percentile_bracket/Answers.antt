@@ -8,8 +8,8 @@ use Rattle.runlength.specs.Scale.{min_horizon, max_horizon, units_per_one}
 use Rattle.runlength.specs.Chain.{cdf_of}
 use Rattle.bracket.specs.declared.BracketAnswer.TheVariants.{Accepted}
 use Rattle.bracket.specs.Limits.{min_states, min_percent, max_percent}
-use Rattle.bracket.specs.BracketLaws.{accepted_bracket}
-use Rattle.bracket.specs.RefusedLaws.{under_range, over_range, refused_length, refused_states, refused_percent, refused_total}
+use Rattle.bracket.proofs.BracketLaws.{accepted_bracket}
+use Rattle.bracket.proofs.RefusedLaws.{under_range, over_range, refused_length, refused_states, refused_percent, refused_total}
 use borrow.Author.Rules.{rules}
 use Rattle.bracket.proofs.percentile_bracket.Goals as goal
 
@@ -19,7 +19,7 @@ pub returns-then-pmf-lt-MIN_LENGTH : goal.returns-then-pmf-lt-MIN_LENGTH
 returns-then-pmf-lt-MIN_LENGTH c =
     let a = c.args in 
     let pmf = a.pmf.now in
-    c.refused.ensures ∙ sym (refused_length pmf a.state-count a.percent (under_range min_horizon max_horizon (length pmf) (omega arith)))
+    c.refused.ensures ∙ sym (refused_length pmf a.state_count a.percent (under_range min_horizon max_horizon (length pmf) (omega arith)))
 
 -- auto refused-requires-then-pmf-gt-MAX_LENGTH
 
@@ -27,7 +27,7 @@ pub returns-then-pmf-gt-MAX_LENGTH : goal.returns-then-pmf-gt-MAX_LENGTH
 returns-then-pmf-gt-MAX_LENGTH c =
     let a = c.args in 
     let pmf = a.pmf.now in
-    c.refused-then-pmf-gt-MAX_LENGTH.ensures ∙ sym (refused_length pmf a.state-count a.percent (over_range min_horizon max_horizon (length pmf) (omega arith) (omega arith)))
+    c.refused-then-pmf-gt-MAX_LENGTH.ensures ∙ sym (refused_length pmf a.state_count a.percent (over_range min_horizon max_horizon (length pmf) (omega arith) (omega arith)))
 
 -- auto refused-requires-then-state_count-lt-MIN_STATES
 
@@ -36,7 +36,7 @@ returns-then-state_count-lt-MIN_STATES c =
     let a = c.args in 
     let pmf = a.pmf.now in
     c.refused-then-state_count-lt-MIN_STATES.ensures
-    ∙ sym (refused_states pmf a.state-count a.percent (omega arith) (omega arith) (under_range min_states max_states a.state-count (omega arith)))
+    ∙ sym (refused_states pmf a.state_count a.percent (omega arith) (omega arith) (under_range min_states max_states a.state_count (omega arith)))
 
 -- auto refused-requires-then-state_count-gt-MAX_STATES
 
@@ -45,7 +45,7 @@ returns-then-state_count-gt-MAX_STATES c =
     let a = c.args in 
     let pmf = a.pmf.now in
     c.refused-then-state_count-gt-MAX_STATES.ensures
-    ∙ sym (refused_states pmf a.state-count a.percent (omega arith) (omega arith) (over_range min_states max_states a.state-count (omega arith) (omega arith)))
+    ∙ sym (refused_states pmf a.state_count a.percent (omega arith) (omega arith) (over_range min_states max_states a.state_count (omega arith) (omega arith)))
 
 -- auto refused-requires-then-percent-lt-MIN_PERCENT
 
@@ -54,7 +54,7 @@ returns-then-percent-lt-MIN_PERCENT c =
     let a = c.args in 
     let pmf = a.pmf.now in
     c.refused-then-percent-lt-MIN_PERCENT.ensures
-    ∙ sym (refused_percent pmf a.state-count a.percent (omega arith) (omega arith) (omega arith) (omega arith)
+    ∙ sym (refused_percent pmf a.state_count a.percent (omega arith) (omega arith) (omega arith) (omega arith)
     (under_range min_percent max_percent a.percent (omega arith)))
 
 -- auto refused-requires-then-percent-gt-MAX_PERCENT
@@ -64,7 +64,7 @@ returns-then-percent-gt-MAX_PERCENT c =
     let a = c.args in 
     let pmf = a.pmf.now in
     c.refused-then-percent-gt-MAX_PERCENT.ensures
-    ∙ sym (refused_percent pmf a.state-count a.percent (omega arith) (omega arith) (omega arith) (omega arith)
+    ∙ sym (refused_percent pmf a.state_count a.percent (omega arith) (omega arith) (omega arith) (omega arith)
     (over_range min_percent max_percent a.percent (omega arith) (omega arith)))
 
 -- auto sum_fits-requires
@@ -76,7 +76,7 @@ returns-then-not-sum_fits c =
     let a = c.args in 
     let pmf = a.pmf.now in
     c.refused-then-not-sum_fits.ensures
-    ∙ sym (refused_total pmf a.state-count a.percent (omega arith) (omega arith) (omega arith) (omega arith) (omega arith) (omega arith)
+    ∙ sym (refused_total pmf a.state_count a.percent (omega arith) (omega arith) (omega arith) (omega arith) (omega arith) (omega arith)
     (sym c.sum_fits.ensures ∙ not-true c.sum_fits.result c.if-not-sum_fits.true-raw))
 
 pub find_bracket-requires : goal.find_bracket-requires
@@ -97,7 +97,7 @@ returns c =
     let a = c.args in 
     let pmf = a.pmf.now in
     ap Accepted c.find_bracket.ensures
-    ∙ sym (accepted_bracket pmf a.state-count a.percent (record {
+    ∙ sym (accepted_bracket pmf a.state_count a.percent (record {
       not_empty = omega arith;
       short = omega arith;
       some_states = omega arith;

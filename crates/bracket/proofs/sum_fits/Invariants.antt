@@ -5,7 +5,7 @@ use native.Mathlib.Omega.{arith}
 use lib.ListN.{length}
 use Rattle.runlength.specs.Scale.{units_per_one}
 use Rattle.runlength.specs.Chain.{cdf_of}
-use Rattle.runlength.specs.CdfLaws.{cdf_zero, cdf_more}
+use Rattle.runlength.proofs.CdfLaws.{cdf_zero, cdf_more}
 use Rattle.bracket.specs.TotalLaws.{total_over, total_within}
 use borrow.Author.Rules.{rules}
 use Rattle.bracket.proofs.sum_fits.Given as goal

@@ -2,7 +2,7 @@
 use mathlib.Core.Path.{◌≡◌, refl, sym, ◌∙◌}
 use native.Mathlib.Omega.{arith}
 use Rattle.rules.specs.Check.{active_rules}
-use Rattle.rules.specs.CheckLaws.{accepted}
+use Rattle.rules.proofs.CheckLaws.{accepted}
 use Rattle.chain.specs.HeldMovesLaws.{explored_count_lem, explored_merge, merged_held}
 use borrow.Author.Rules.{rules}
 use Rattle.chain.proofs.chain_moves.Goals as goal

@@ -5,8 +5,8 @@ use native.Mathlib.Omega.{arith}
 use Prim.Native.Nat.{◌-◌}
 use lib.ListN.{length}
 use Rattle.shift.specs.Area.{last_area}
-use Rattle.shift.specs.AreaLaws.{area_count, area_read, area_within}
-use Rattle.shift.specs.BelowLaws.{below_low, below_high}
+use Rattle.shift.proofs.AreaLaws.{area_count, area_read, area_within}
+use Rattle.shift.proofs.BelowLaws.{below_low, below_high}
 use Rattle.shift.proofs.below.Goals as goal
 
 -- auto overflow_sub-result

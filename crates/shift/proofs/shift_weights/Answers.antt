@@ -13,8 +13,8 @@ use mir.Val.{Fits, SFits, to_z, of_z}
 use mir.ValLaws.{to_z-of_z}
 use Rattle.shift.specs.declared.ShiftAnswer.TheVariants.{Accepted}
 use Rattle.shift.specs.Shift.{max_shift, weights_of}
-use Rattle.shift.specs.ShiftLaws.{in_bounds}
-use Rattle.shift.specs.ShiftedWeights.{shift_accepted, shift_refused}
+use Rattle.shift.proofs.ShiftLaws.{in_bounds}
+use Rattle.shift.proofs.ShiftedWeights.{shift_accepted, shift_refused}
 use Rattle.shift.proofs.shift_weights.Goals as goal
 
 no_test : {A : Type 0} → false ≡ true → A

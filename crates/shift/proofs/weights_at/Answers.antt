@@ -3,7 +3,7 @@ use borrow.Author.Rules.{rules}
 use native.Mathlib.Omega.{arith}
 use mathlib.Core.Path.{refl, sym}
 use Rattle.shift.specs.Area.{areas}
-use Rattle.shift.specs.ShiftLaws.{Rising, limits_rise, weights_computed}
+use Rattle.shift.proofs.ShiftLaws.{Rising, limits_rise, weights_computed}
 use Rattle.shift.proofs.weights_at.Goals as goal
 
 -- behind the seven areas: they rise

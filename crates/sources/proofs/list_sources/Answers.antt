@@ -15,7 +15,7 @@ list_groups-requires c = search list_of
 
 pub list_stops-requires : goal.list_stops-requires
 list_stops-requires c =
-    stops_of c.?Start.before.requires c.?After-list_groups-arg4.list-groups.ensures
+    stops_of c.requires c.list_groups.ensures
 
 -- auto shape_of-sources
 

@@ -2,7 +2,7 @@
 use mathlib.Core.Path.{sym}
 use lib.Seq.{length-take-le}
 use Rattle.table.specs.Table.{table_call}
-use Rattle.summary.specs.SummaryLaws.{refused_summary, left_room, left_summarizable, accepted_run}
+use Rattle.summary.proofs.SummaryLaws.{refused_summary, left_room, left_summarizable, accepted_run}
 use borrow.Author.Rules.{rules}
 use Rattle.summary.proofs.table_summary.Goals as goal
 
@@ -17,11 +17,11 @@ slice_bounds-summarize-end c = let a = c.args in left_room (table_call a.list a.
 
 pub slice_bounds-summarize-end-in-Accepted : goal.slice_bounds-summarize-end-in-Accepted
 slice_bounds-summarize-end-in-Accepted c =
-    let a = c.?Start.before.args in 
-    sym (length-take-le a.horizon _ (left_room (table_call a.list a.weights a.horizon a.pmf.now a.survival.now) c.?After-run_length_table-arg2.run-length-table.ensures c.in-Accepted.is))
+    let a = c.args in 
+    sym (length-take-le a.horizon _ (left_room (table_call a.list a.weights a.horizon a.pmf.now a.survival.now) c.run_length_table-answer.ensures c.in-Accepted.is))
 
 pub summarize-requires : goal.summarize-requires
-summarize-requires c = let a = c.?Start.before.args in left_summarizable (table_call a.list a.weights a.horizon a.pmf.now a.survival.now) c.?After-run_length_table-arg2.run-length-table.ensures c.in-Accepted.is
+summarize-requires c = let a = c.args in left_summarizable (table_call a.list a.weights a.horizon a.pmf.now a.survival.now) c.run_length_table-answer.ensures c.in-Accepted.is
 
 -- auto shape_of-pmf-in-Refused
 
@@ -35,4 +35,4 @@ returns-in-Refused c = let a = c.args in refused_summary (table_call a.list a.we
 -- auto shape_of-survival-in-Accepted
 
 pub returns-in-Accepted : goal.returns-in-Accepted
-returns-in-Accepted c = let a = c.?Start.before.args in accepted_run (table_call a.list a.weights a.horizon a.pmf.now a.survival.now) c.?After-run_length_table-arg2.run-length-table.ensures c.in-Accepted.is c.summarize.ensures
+returns-in-Accepted c = let a = c.args in accepted_run (table_call a.list a.weights a.horizon a.pmf.now a.survival.now) c.run_length_table-answer.ensures c.in-Accepted.is c.summarize.ensures

@@ -3,9 +3,9 @@ use mathlib.Core.Path.{◌≡◌, sym, ◌∙◌}
 use native.Mathlib.Omega.{arith}
 use Rattle.rules.specs.Check.{active_rules}
 use Rattle.table.specs.Table.{table_call}
-use Rattle.table.specs.ChainCheckedLaws.{refused_chain, passed_chain, held_moves}
-use Rattle.table.specs.ChainCheckLaws.{accepted_chain}
-use Rattle.table.specs.TableLaws.{chain_refused, short_pmf, short_survival, all_passed, rows_filled}
+use Rattle.table.proofs.ChainCheckedLaws.{refused_chain, passed_chain, held_moves}
+use Rattle.table.proofs.ChainCheckLaws.{accepted_chain}
+use Rattle.table.proofs.TableLaws.{chain_refused, short_pmf, short_survival, all_passed, rows_filled}
 use Rattle.chain.specs.TableChainLaws.{count_some}
 use borrow.Author.Rules.{rules}
 use Rattle.table.proofs.run_length_table.Goals as goal

@@ -1,6 +1,6 @@
 -- `table_output` meets its contract: what the report wrote, or the line of its refusal.
 use borrow.Author.Rules.{rules}
-use Rattle.write.specs.PrintedLaws.{output_by}
+use Rattle.write.proofs.PrintedLaws.{output_by}
 use Rattle.table_report.specs.TableReport.{table_printed}
 use Rattle.table_report.proofs.table_output.Goals as goal
 

@@ -9,7 +9,7 @@ use Rattle.table_report.proofs.table_report.Goals as goal
 -- auto table_text-read-requires
 
 pub returns-then-refusal-ne0 : goal.returns-then-refusal-ne0
-returns-then-refusal-ne0 c = let a = c.args in text_refused a.text.now a.out.now c.?After-table_text.table_text_lem.result c.?After-table_text.table_text_lem.ensures c.if-refusal-ne0.true
+returns-then-refusal-ne0 c = let a = c.args in text_refused a.text.now a.out.now c.table_text-read.result c.table_text-read.ensures c.if-refusal-ne0.true
 
 -- auto report_horizon-horizon-requires
 
@@ -32,7 +32,7 @@ returns-then-refusal-ne0 c = let a = c.args in text_refused a.text.now a.out.now
 pub put_table-n-requires : goal.put_table-n-requires
 unfolding blank
 put_table-n-requires c =
-    let t = c.?After-table_text.table_text_lem.result in 
+    let t = c.table_text-read.result in 
     let call = table_call t.list t.weights c.report_horizon-horizon.result blank blank in
     let run = c.table_summary-answer.ensures in 
     let accepted = c.in-Accepted.is in 
@@ -42,13 +42,13 @@ pub returns-in-Refused : goal.returns-in-Refused
 unfolding blank
 returns-in-Refused c =
     let a = c.args in 
-    table_refused a.text.now a.out.now c.?After-table_text.table_text_lem.result c.?After-table_text.table_text_lem.ensures c.if-refusal-ne0.false
+    table_refused a.text.now a.out.now c.table_text-read.result c.table_text-read.ensures c.if-refusal-ne0.false
     c.report_horizon-horizon.result c.report_horizon-horizon.ensures c.table_summary-answer.result _ _ c.table_summary-answer.ensures _ c.in-Refused.is
 
 pub returns-in-Accepted : goal.returns-in-Accepted
 unfolding blank
 returns-in-Accepted c =
     let a = c.args in 
-    table_written a.text.now a.out.now c.?After-table_text.table_text_lem.result c.?After-table_text.table_text_lem.ensures c.if-refusal-ne0.false
+    table_written a.text.now a.out.now c.table_text-read.result c.table_text-read.ensures c.if-refusal-ne0.false
     c.report_horizon-horizon.result c.report_horizon-horizon.ensures c.table_summary-answer.result _ _ c.table_summary-answer.ensures _ c.in-Accepted.is
     _ _ c.put_table-n.ensures.wrote

@@ -9,7 +9,7 @@ use Rattle.table_text.proofs.table_text.Goals as goal
 -- auto refused_table-requires
 
 pub returns-then-text-gt-MAX_TEXT : goal.returns-then-text-gt-MAX_TEXT
-returns-then-text-gt-MAX_TEXT c = c.?After-refused_table.refused_table_lem.ensures ∙ too_long_lem _ (omega arith)
+returns-then-text-gt-MAX_TEXT c = c.refused_table.ensures ∙ too_long_lem _ (omega arith)
 
 -- auto line_at-first-requires
 
@@ -21,7 +21,7 @@ returns-then-text-gt-MAX_TEXT c = c.?After-refused_table.refused_table_lem.ensur
 
 pub returns-in_default : goal.returns-in_default
 returns-in_default c =
-    c.refused_table-in_default.ensures ∙ other_first _ (omega arith) c.?After-line_at.line_at_lem.ensures c.in_default.is
+    c.refused_table-in_default.ensures ∙ other_first _ (omega arith) c.line_at-first.ensures c.in_default.is
 
 -- auto read_rules-read-requires
 
@@ -29,7 +29,7 @@ returns-in_default c =
 
 pub returns-then-refusal-ne0 : goal.returns-then-refusal-ne0
 returns-then-refusal-ne0 c =
-    c.refused_table-then-refusal-ne0.ensures ∙ bad_rule _ (omega arith) c.?After-line_at.line_at_lem.ensures c.in-At.is c.read_rules-read.ensures c.if-refusal-ne0.true
+    c.refused_table-then-refusal-ne0.ensures ∙ bad_rule _ (omega arith) c.line_at-first.ensures c.in-At.is c.read_rules-read.ensures c.if-refusal-ne0.true
 
 -- auto line_at-last-requires
 
@@ -42,21 +42,21 @@ returns-then-refusal-ne0 c =
 pub returns-in_default-end : goal.returns-in_default-end
 returns-in_default-end c =
     c.refused_table-in_default-end.ensures
-    ∙ other_last _ (omega arith) c.?After-behind.line_at_lem.ensures c.?After-read_rules.behind.given.1 c.?After-struct_known.read-rules.ensures c.line_at-last.ensures c.in_default-end.is
+    ∙ other_last _ (omega arith) c.line_at-first.ensures c.in-At.is c.read_rules-read.ensures c.line_at-last.ensures c.in_default-end.is
 
 pub overflow_add-line : goal.overflow_add-line
 overflow_add-line c =
-    omega (arith, read_few _ _ _ c.?After-struct_known.read-rules.ensures)
+    omega (arith, read_few _ _ _ c.read_rules-read.ensures)
 
 -- auto refused_table-requires-then-next-text
 
 pub returns-then-next-text : goal.returns-then-next-text
 returns-then-next-text c =
     c.refused_table-then-next-text.ensures
-    ∙ goes_on _ (omega (arith, c.?After-line_at-arg4.if1.false)) c.?After-behind.line_at_lem.ensures c.?After-read_rules.behind.given.1 c.?After-struct_known.read-rules.ensures c.line_at-last.ensures c.in-At-end.is (omega (arith, c.if-next-text.true))
+    ∙ goes_on _ (omega (arith, c.if-text-gt-MAX_TEXT.false)) c.line_at-first.ensures c.in-At.is c.read_rules-read.ensures c.line_at-last.ensures c.in-At-end.is (omega (arith, c.if-next-text.true))
 
 -- auto bounds-horizon-0
 
 pub returns : goal.returns
 returns c =
-    whole _ (omega arith) c.?After-behind.line_at_lem.ensures c.?After-read_rules.behind.given.1 c.?After-struct_known.read-rules.ensures c.line_at-last.ensures c.in-At-end.is (omega arith)
+    whole _ (omega arith) c.line_at-first.ensures c.in-At.is c.read_rules-read.ensures c.line_at-last.ensures c.in-At-end.is (omega arith)

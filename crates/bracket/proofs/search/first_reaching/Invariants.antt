@@ -4,7 +4,7 @@ use Prim.Native.Nat.{◌-◌}
 use native.Mathlib.Omega.{arith}
 use lib.ListN.{length}
 use Rattle.bracket.specs.Crossing.{Searched}
-use Rattle.bracket.specs.CrossingLaws.{searched_start, next_room, searched_here, searched_on, searched_end}
+use Rattle.bracket.proofs.CrossingLaws.{searched_start, next_room, searched_here, searched_on, searched_end}
 use borrow.Author.Rules.{rules}
 use Rattle.bracket.proofs.search.first_reaching.Given as goal
 

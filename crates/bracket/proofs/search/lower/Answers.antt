@@ -3,7 +3,7 @@ use mathlib.Core.Path.{◌∙◌}
 use native.Mathlib.Omega.{arith}
 use lib.ListN.{length}
 use borrow.Author.Rules.{rules}
-use Rattle.bracket.specs.CrossingLaws.{search_low}
+use Rattle.bracket.proofs.CrossingLaws.{search_low}
 use Rattle.bracket.proofs.search.lower.Goals as goal
 
 -- auto overflow_add-slack
@@ -14,4 +14,4 @@ use Rattle.bracket.proofs.search.lower.Goals as goal
 
 pub returns : goal.returns
 returns c =
-    c.first_reaching.ensures ∙ search_low c.args.pmf.now _ c.hundredth-goal.result c.args.state-count c.args.percent (length c.args.pmf.now) (omega arith) (omega (arith, c.hundredth-goal.ensures))
+    c.first_reaching.ensures ∙ search_low c.args.pmf.now _ c.hundredth-goal.result c.args.state_count c.args.percent (length c.args.pmf.now) (omega arith) (omega (arith, c.hundredth-goal.ensures))

@@ -3,7 +3,7 @@ use mathlib.Core.Path.{◌∙◌}
 use native.Mathlib.Omega.{arith}
 use lib.ListN.{length}
 use borrow.Author.Rules.{rules}
-use Rattle.bracket.specs.CrossingLaws.{search_high}
+use Rattle.bracket.proofs.CrossingLaws.{search_high}
 use Rattle.bracket.proofs.search.upper.Goals as goal
 
 -- auto overflow_sub-hundredth

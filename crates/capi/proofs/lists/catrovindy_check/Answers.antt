@@ -3,7 +3,7 @@ use mathlib.Core.Path.{refl, sym, ap, ◌∙◌}
 use denote.Enum.Declared.{tag_of}
 use borrow.Author.Rules.{rules}
 use Rattle.rules.specs.Check.{check_of}
-use Rattle.rules.specs.CheckLaws.{is_accepted}
+use Rattle.rules.proofs.CheckLaws.{is_accepted}
 use Rattle.rules.specs.contracts.Checked.{the_type}
 use Rattle.codes.specs.Codes.{check_code}
 use Rattle.capi.proofs.lists.catrovindy_check.Goals as goal

@@ -23,4 +23,4 @@ returns-in-Refused c =
 pub returns-in-Zone : goal.returns-in-Zone
 returns-in-Zone c =
     let a = c.args in 
-    zone_call (to_z-of_z c.ranges.reading) (to_z-of_z c.ranges.centre) a.sigma a.zone.now _ _ c.?At-match-keys2.zone-of.result _ c.?At-match-keys2.zone-of.ensures c.in-Zone.is refl refl
+    zone_call (to_z-of_z c.ranges.reading) (to_z-of_z c.ranges.centre) a.sigma a.zone.now _ _ c.zone_of.result _ c.zone_of.ensures c.in-Zone.is refl refl

@@ -44,5 +44,5 @@ returns-in-Refused c =
 pub returns-in-Accepted : goal.returns-in-Accepted
 returns-in-Accepted c =
     let a = c.args in 
-    let called = c.?After-pmf.run-length-table.ensures ∙ ap (λ (l : RuleList). table_of (table_call l a.weights.now a.horizon a.pmf.now a.survival.now)) c.?After-run_length_table-arg.list_of.ensures in
+    let called = c.run_length_table-answer.ensures ∙ ap (λ (l : RuleList). table_of (table_call l a.weights.now a.horizon a.pmf.now a.survival.now)) c.list_of.ensures in
     call_accepted (table_call (slot_list a.slots.now a.count) a.weights.now a.horizon a.pmf.now a.survival.now) a.figures.now called c.in-Accepted.is

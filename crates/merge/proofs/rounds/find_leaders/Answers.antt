@@ -13,53 +13,53 @@ loop-k-init c = (omega arith, c.requires.2, refl, refl)
 
 pub refine-requires : goal.refine-requires
 refine-requires c =
-    let l = c.?After-slice_known2.loop in 
-    let p = c.?Start.before.requires in 
+    let l = c.loop-k in 
+    let p = c.requires in 
     round_can (room_kept p.0 l.invariant.2) l.invariant.1 (omega (arith, p.1, l.invariant.3))
 
 pub shape_of-leaders-then-refine-eq0 : goal.shape_of-leaders-then-refine-eq0
-shape_of-leaders-then-refine-eq0 c = c.?After-slice_known2.loop.invariant.2
+shape_of-leaders-then-refine-eq0 c = c.loop-k.invariant.2
 
 pub shape_of-next-then-refine-eq0 : goal.shape_of-next-then-refine-eq0
 shape_of-next-then-refine-eq0 c =
-    let l = c.?After-slice_known2.loop in 
+    let l = c.loop-k in 
     c.refine.ensures.same_room ∙ l.invariant.3
 
 pub returns-then-refine-eq0 : goal.returns-then-refine-eq0
 returns-then-refine-eq0 c =
-    let l = c.?After-slice_known2.loop in 
-    let p = c.?Start.before.requires in (
+    let l = c.loop-k in 
+    let p = c.requires in (
       round_last (room_kept p.0 l.invariant.2) l.invariant.1 c.refine.ensures l.invariant.0 c.if-refine-eq0.true,
       l.invariant.2,
     )
 
 pub copy-requires : goal.copy-requires
 copy-requires c =
-    let l = c.?After-slice_known.loop in 
-    let p = c.?Start.before.before.requires in (
-      omega (arith, c.?After-refine-arg.refine.ensures.same_room, l.invariant.3, p.1),
+    let l = c.loop-k in 
+    let p = c.requires in (
+      omega (arith, c.refine.ensures.same_room, l.invariant.3, p.1),
       omega (arith, l.invariant.2, p.0.room),
     )
 
 pub overflow_add-k : goal.overflow_add-k
 overflow_add-k c =
-    let t = c.?After-slice_known2.loop-test.true in 
-    let p = c.?Start.before.before.requires in 
+    let t = c.loop-k-test.true in 
+    let p = c.requires in 
     record { fits = omega (arith, t, p.0.few) }
 
 pub loop-k-smaller : goal.loop-k-smaller
-loop-k-smaller c = omega (arith, c.?After-slice_known2.loop-test.true)
+loop-k-smaller c = omega (arith, c.loop-k-test.true)
 
 pub loop-k-preserved : goal.loop-k-preserved
 loop-k-preserved c =
-    let t = c.?After-slice_known2.loop-test.true in 
-    let l = c.?After-slice_known.loop in 
-    let p = c.?Start.before.before.requires in (
+    let t = c.loop-k-test.true in 
+    let l = c.loop-k in 
+    let p = c.requires in (
       omega (arith, t),
       round_next (room_kept p.0 l.invariant.2) l.invariant.1
-          c.?After-refine-arg.refine.ensures c.copy.ensures,
+          c.refine.ensures c.copy.ensures,
       ap length c.copy.ensures ∙ front_length _ _ _ (omega (arith, l.invariant.2, p.0.room)) ∙ l.invariant.2,
-      c.?After-refine-arg.refine.ensures.same_room ∙ l.invariant.3,
+      c.refine.ensures.same_room ∙ l.invariant.3,
     )
 
 pub shape_of-leaders : goal.shape_of-leaders

@@ -35,7 +35,7 @@ overflow_sub-moved c =
     let l = c.loop-i in 
     let p = c.requires in 
     let a = c.args in 
-    refined_sub a.n a.moves.now a.leaders.now a.next.now p l.invariant.1 t c.?After-next_leader.next_leader_lem.ensures
+    refined_sub a.n a.moves.now a.leaders.now a.next.now p l.invariant.1 t c.next_leader-leader.ensures
     c.index.ensures
 
 pub overflow_add-moved : goal.overflow_add-moved
@@ -44,7 +44,7 @@ overflow_add-moved c =
     let l = c.loop-i in 
     let a = c.args in 
     let p = refined_more a.n a.moves.now a.leaders.now a.next.now
-    c.requires l.invariant.1 t c.?After-next_leader.next_leader_lem.ensures
+    c.requires l.invariant.1 t c.next_leader-leader.ensures
     c.index.ensures in
     record { fits = omega (arith, p.most, c.requires.has_room.few, t) }
 
@@ -54,7 +54,7 @@ overflow_cast-next c =
     let l = c.loop-i in 
     let p = c.requires in 
     let a = c.args in 
-    let e = c.?After-next_leader.next_leader_lem.ensures in 
+    let e = c.next_leader-leader.ensures in 
     let f = refined_fits a.n a.moves.now a.leaders.now a.next.now p l.invariant.1 t e c.index.ensures in
     record { fits = omega arith }
 
@@ -87,7 +87,7 @@ loop-i-preserved c =
     let p = c.requires in 
     let a = c.args in (
       omega (arith, t),
-      refined_more a.n a.moves.now a.leaders.now a.next.now p l.invariant.1 t c.?After-next_leader.next_leader_lem.ensures
+      refined_more a.n a.moves.now a.leaders.now a.next.now p l.invariant.1 t c.next_leader-leader.ensures
           c.index.ensures,
     )
 

@@ -4,7 +4,7 @@ use Prim.Native.Nat.{◌+◌}
 use native.Mathlib.Omega.{arith}
 use borrow.Author.Tests.{not-true, not-false}
 use Rattle.rules.specs.Check.{active_rules}
-use Rattle.monitor.specs.StepLaws.{step_bad_zone, step_bad_state, step_bad_count, step_take}
+use Rattle.monitor.proofs.StepLaws.{step_bad_zone, step_bad_state, step_bad_count, step_take}
 use Rattle.monitor.specs.Take.{step_taken}
 use borrow.Author.Rules.{rules}
 use Rattle.monitor.proofs.Monitor.accepted_step.Goals as goal

@@ -2,10 +2,10 @@
 use mathlib.Core.Path.{refl, sym, ◌∙◌}
 use denote.Enum.Declared.{tag_of}
 use borrow.Author.Rules.{rules}
-use Rattle.rules.specs.CheckLaws.{accepted, is_accepted}
+use Rattle.rules.proofs.CheckLaws.{accepted, is_accepted}
 use Rattle.rules.specs.contracts.Checked.{the_type}
 use Rattle.monitor.specs.Step.{step_of}
-use Rattle.monitor.specs.StepLaws.{rules_accepted}
+use Rattle.monitor.proofs.StepLaws.{rules_accepted}
 use Rattle.monitor.proofs.Monitor.step.Goals as goal
 
 -- auto check-checked-requires

@@ -2,7 +2,7 @@
 use mathlib.Core.Path.{sym, ◌∙◌}
 use borrow.Author.Rules.{rules}
 use Rattle.rules.specs.Check.{active_rules}
-use Rattle.monitor.specs.StepLaws.{taken_move}
+use Rattle.monitor.proofs.StepLaws.{taken_move}
 use Rattle.monitor.proofs.Monitor.take.Goals as goal
 
 -- auto overflow_add-count

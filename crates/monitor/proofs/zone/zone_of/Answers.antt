@@ -4,7 +4,7 @@ use lib.IntN.{ℤ, ◌-ℤ◌}
 use mir.Facts.{to_z-of_z}
 use borrow.Author.Rules.{rules}
 use borrow.Author.Tests.{not-true, not-false}
-use Rattle.rules.specs.CheckLaws.{between}
+use Rattle.rules.proofs.CheckLaws.{between}
 use Rattle.monitor.specs.Zone.{min_sigma, max_sigma, zone_at}
 use Rattle.monitor.specs.ZoneLaws.{zone_fits, zone_refused}
 use Rattle.monitor.specs.declared.zone.ZoneAnswer.TheVariants.{Zone}

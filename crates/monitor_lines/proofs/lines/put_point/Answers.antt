@@ -7,7 +7,7 @@ use mir.Syntax.{w32}
 use mir.Val.{Fits}
 use Rattle.write.specs.Wrote.{Wrote}
 use Rattle.write.specs.WroteLaws.{then}
-use Rattle.write.specs.FieldLaws.{field_short}
+use Rattle.write.proofs.FieldLaws.{field_short}
 use Rattle.monitor_lines.specs.declared.lines.PointLine.{PointLine}
 use Rattle.monitor_lines.specs.declared.lines.PointLine.TheVariants.{Quiet, Signal}
 use Rattle.monitor_lines.specs.MonitorLines.{quiet_line, signal_line, point_bytes}

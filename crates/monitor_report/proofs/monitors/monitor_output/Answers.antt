@@ -1,6 +1,6 @@
 -- `monitor_output` meets its contract: what the report wrote, or the line of its refusal.
 use borrow.Author.Rules.{rules}
-use Rattle.write.specs.PrintedLaws.{output_by}
+use Rattle.write.proofs.PrintedLaws.{output_by}
 use Rattle.monitor_report.specs.MonitorReport.{monitor_printed}
 use Rattle.monitor_report.proofs.monitors.monitor_output.Goals as goal
 

@@ -7,7 +7,7 @@ use Rattle.monitor_report.specs.TotalsWrittenLaws.{TotalsWritten, totals_start, 
 use Rattle.monitor_report.proofs.nodes.put_totals.Given as goal
 
 abbrev pub invariant-loop-k : goal.invariant-loop-k
-invariant-loop-k l = TotalsWritten l.at l.nodes l.initial.out l.out l.end l.k
+invariant-loop-k l = TotalsWritten l.initial.out l.at l.nodes l.out l.end l.k
 
 abbrev pub decreases-loop-k : goal.decreases-loop-k
 decreases-loop-k l = node_count - l.k

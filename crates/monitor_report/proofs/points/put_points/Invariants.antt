@@ -17,7 +17,7 @@ use Rattle.monitor_report.proofs.points.put_points.Given as goal
 
 abbrev pub invariant-loop-next : goal.invariant-loop-next
 invariant-loop-next l =
-    BenchWritten l.at l.list (active_rules l.chart) l.initial.out.centre l.initial.out.sigma l.text l.out l.nodes l.i l.end
+    BenchWritten l.text l.at (active_rules l.list) l.chart.centre l.chart.sigma l.initial.out l.out l.nodes l.i l.end
 
 abbrev pub decreases-loop-next : goal.decreases-loop-next
-decreases-loop-next l = length l.at - l.i
+decreases-loop-next l = length l.text - l.i

@@ -23,7 +23,7 @@ returns-then-text-gt-MAX_TEXT c = c.refused_monitor.ensures ∙ too_long_lem _ (
 
 pub returns-in_default : goal.returns-in_default
 returns-in_default c =
-    c.refused_monitor-in_default.ensures ∙ other_first _ (omega arith) c.?After-line_at.line_at_lem.ensures c.in_default.is
+    c.refused_monitor-in_default.ensures ∙ other_first _ (omega arith) c.line_at-first.ensures c.in_default.is
 
 -- auto read_rules-read-requires
 
@@ -31,31 +31,31 @@ returns-in_default c =
 
 pub returns-then-refusal-ne0 : goal.returns-then-refusal-ne0
 returns-then-refusal-ne0 c =
-    c.refused_monitor-then-refusal-ne0.ensures ∙ bad_rule _ (omega (arith, c.?After-line_at-arg2.if1.false)) c.?After-line_at.line_at_lem.ensures c.in-At.is c.read_rules-read.ensures c.if-refusal-ne0.true
+    c.refused_monitor-then-refusal-ne0.ensures ∙ bad_rule _ (omega (arith, c.if-text-gt-MAX_TEXT.false)) c.line_at-first.ensures c.in-At.is c.read_rules-read.ensures c.if-refusal-ne0.true
 
 -- auto run_at-run-requires
 
 pub overflow_add-line : goal.overflow_add-line
 overflow_add-line c =
-    let a = read_few _ _ _ c.?After-struct_known.read-rules.ensures in
-    omega (arith, a, run_few _ _ _ _ _ _ c.run_at-run.ensures, c.?After-line_at-arg4.if1.false)
+    let a = read_few _ _ _ c.read_rules-read.ensures in
+    omega (arith, a, run_few _ _ _ _ _ _ c.run_at-run.ensures, c.if-text-gt-MAX_TEXT.false)
 
 -- auto refused_monitor-requires-then-end-text
 
 pub returns-then-end-text : goal.returns-then-end-text
 returns-then-end-text c =
-    c.refused_monitor-then-end-text.ensures ∙ goes_on _ (omega (arith, c.?After-line_at-arg4.if1.false)) c.?After-behind.line_at_lem.ensures c.?After-read_rules.behind.given.1 c.?After-struct_known.read-rules.ensures _ c.run_at-run.ensures c.if-end-text.true
+    c.refused_monitor-then-end-text.ensures ∙ goes_on _ (omega (arith, c.if-text-gt-MAX_TEXT.false)) c.line_at-first.ensures c.in-At.is c.read_rules-read.ensures _ c.run_at-run.ensures c.if-end-text.true
 
 pub overflow_add-line-then-good-count : goal.overflow_add-line-then-good-count
 overflow_add-line-then-good-count c =
-    let a = read_few _ _ _ c.?After-struct_known.read-rules.ensures in
-    omega (arith, a, run_few _ _ _ _ _ _ c.run_at-run.ensures, c.?After-line_at-arg4.if1.false, c.if-good-count.true)
+    let a = read_few _ _ _ c.read_rules-read.ensures in
+    omega (arith, a, run_few _ _ _ _ _ _ c.run_at-run.ensures, c.if-text-gt-MAX_TEXT.false, c.if-good-count.true)
 
 -- auto refused_monitor-requires-then-good-count
 
 pub returns-then-good-count : goal.returns-then-good-count
 returns-then-good-count c =
-    c.refused_monitor-then-good-count.ensures ∙ off_bench _ (omega (arith, c.?After-line_at-arg4.if1.false)) c.?After-behind.line_at_lem.ensures c.?After-read_rules.behind.given.1 c.?After-struct_known.read-rules.ensures c.run_at-run.ensures c.if-end-text.false c.if-good-count.true
+    c.refused_monitor-then-good-count.ensures ∙ off_bench _ (omega (arith, c.if-text-gt-MAX_TEXT.false)) c.line_at-first.ensures c.in-At.is c.read_rules-read.ensures c.run_at-run.ensures c.if-end-text.false c.if-good-count.true
 
 -- auto bounds-chart-0
 
@@ -65,4 +65,4 @@ returns-then-good-count c =
 
 pub returns : goal.returns
 returns c =
-    whole _ (omega (arith, c.?After-line_at-arg4.if1.false)) c.?After-behind.line_at_lem.ensures c.?After-read_rules.behind.given.1 c.?After-struct_known.read-rules.ensures c.run_at-run.ensures (to_z-of_z (search rules) ∙ c.signed_value.ensures) c.if-end-text.false c.if-good-count.false
+    whole _ (omega (arith, c.if-text-gt-MAX_TEXT.false)) c.line_at-first.ensures c.in-At.is c.read_rules-read.ensures c.run_at-run.ensures (to_z-of_z (search rules) ∙ c.signed_value.ensures) c.if-end-text.false c.if-good-count.false

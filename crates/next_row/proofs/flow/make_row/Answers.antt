@@ -5,7 +5,7 @@ use native.Mathlib.Omega.{arith}
 use lib.ListN.{length}
 use Rattle.next_row.specs.ArrivalsLaws.{flows_upto}
 use Rattle.next_row.specs.OneRow.{Filled}
-use Rattle.next_row.specs.OneRowLaws.{fill_start, round_can, fill_more, fill_done, stretch_can, row_fits, row_done}
+use Rattle.next_row.proofs.OneRowLaws.{fill_start, round_can, fill_more, fill_done, stretch_can, row_fits, row_done}
 use borrow.Author.Rules.{rules}
 use Rattle.next_row.proofs.flow.make_row.Goals as goal
 

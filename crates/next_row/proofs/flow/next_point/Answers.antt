@@ -1,6 +1,6 @@
 -- `flow::next_point` meets its contract.
 use native.Mathlib.Omega.{arith}
-use Rattle.next_row.specs.OneRowLaws.{point_some}
+use Rattle.next_row.proofs.OneRowLaws.{point_some}
 use borrow.Author.Rules.{rules}
 use Rattle.next_row.proofs.flow.next_point.Goals as goal
 

@@ -5,7 +5,7 @@ use native.Mathlib.Omega.{arith}
 use lib.ListN.{length, get_or}
 use Rattle.next_row.specs.ArrivalsLaws.{group_can, one_come}
 use Rattle.next_row.specs.OneRow.{Filled}
-use Rattle.next_row.specs.OneRowLaws.{round_can, fill_more, fill_done, stretch_first, stretch_in, stretch_next}
+use Rattle.next_row.proofs.OneRowLaws.{round_can, fill_more, fill_done, stretch_first, stretch_in, stretch_next}
 use borrow.Author.Rules.{rules}
 use Rattle.next_row.proofs.flow.stretch.Goals as goal
 

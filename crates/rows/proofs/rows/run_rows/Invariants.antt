@@ -11,8 +11,8 @@ use Rattle.rows.proofs.rows.run_rows.Given as goal
 
 abbrev pub invariant-loop-k : goal.invariant-loop-k
 invariant-loop-k l =
-    (l.k ≤ l.horizon) × (length l.pmf ≡ length l.sources) × (length l.survival ≡ length l.firsts) × (length l.others ≡ max_states)
-    × Running l.moves l.n l.weights l.k l.sources l.firsts l.units l.pmf l.survival l.totals.survival l.totals.mean_whole l.totals.mean_fraction
+    (l.k ≤ l.horizon) × (length l.pmf ≡ length l.initial.pmf) × (length l.survival ≡ length l.initial.survival) × (length l.others ≡ max_states)
+    × Running l.moves l.n l.weights l.k l.initial.pmf l.initial.survival l.units l.pmf l.survival l.totals.survival l.totals.mean_whole l.totals.mean_fraction
 
 abbrev pub decreases-loop-k : goal.decreases-loop-k
 decreases-loop-k l = l.horizon - l.k

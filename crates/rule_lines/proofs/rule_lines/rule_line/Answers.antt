@@ -10,7 +10,7 @@ use Rattle.rule_lines.proofs.rule_lines.rule_line.Goals as goal
 
 pub returns-in-At : goal.returns-in-At
 returns-in-At c =
-    rule_given _ _ c.?After-line_at.line_at_lem.ensures c.in-At.is
+    rule_given _ _ c.line_at-line.ensures c.in-At.is
 
 -- auto enum_told-1
 
@@ -22,8 +22,8 @@ returns-in-At c =
 
 pub returns-in_default-past : goal.returns-in_default-past
 returns-in_default-past c =
-    rule_not_begun _ _ c.?At-match-keys2.line_at_lem.ensures c.?After-past-arg.enum_told.given.1 (sym c.past.ensures ∙ c.in_default-past.is)
+    rule_not_begun _ _ c.line_at-line.ensures c.in_default.is (sym c.past.ensures ∙ c.in_default-past.is)
 
 pub returns : goal.returns
 returns c =
-    rule_begun _ _ c.?At-match-keys2.line_at_lem.ensures c.?After-past-arg.enum_told.given.1 (sym c.past.ensures ∙ c.in-At-past.is)
+    rule_begun _ _ c.line_at-line.ensures c.in_default.is (sym c.past.ensures ∙ c.in-At-past.is)

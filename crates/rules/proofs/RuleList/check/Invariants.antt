@@ -8,7 +8,7 @@ use borrow.Author.Rules.{rules}
 use borrow.Author.Tests.{not-true, not-false}
 use Rattle.rules.specs.Bounds.{min_rules, max_rules}
 use Rattle.rules.specs.Check.{within, check_of, check_rules, rules_from, active_rules, or_else}
-use Rattle.rules.specs.CheckLaws.{check_cons, check_none, is_accepted, is_refused, between}
+use Rattle.rules.proofs.CheckLaws.{check_cons, check_none, is_accepted, is_refused, between}
 use Rattle.rules.specs.Refusal.{bad_rule_count}
 use Rattle.rules.specs.declared.RuleList.{RuleList}
 use Rattle.rules.specs.declared.Checked.{Checked}

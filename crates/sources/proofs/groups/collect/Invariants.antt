@@ -7,7 +7,7 @@ use borrow.Author.Rules.{rules}
 use Rattle.sources.proofs.groups.collect.Given as goal
 
 abbrev pub invariant-loop-s : goal.invariant-loop-s
-invariant-loop-s l = (l.s ≤ l.n) × Collected l.moves l.n l.z l.t l.s l.first l.initial.sources l.sources l.e
+invariant-loop-s l = (l.s ≤ l.n) × Collected l.moves l.n l.z l.t l.s l.initial.sources l.first l.sources l.e
 
 abbrev pub decreases-loop-s : goal.decreases-loop-s
 decreases-loop-s l = l.n - l.s

@@ -8,7 +8,7 @@ use borrow.Author.Rules.{rules}
 use Rattle.sources.proofs.groups.group_state.Given as goal
 
 abbrev pub invariant-loop-z : goal.invariant-loop-z
-invariant-loop-z l = (l.z ≤ zone_count) × GroupingState l.moves l.n l.weights l.t l.z l.first l.initial.sources l.initial.firsts l.initial.shares l.sources l.firsts l.shares l.g
+invariant-loop-z l = (l.z ≤ zone_count) × GroupingState l.moves l.n l.weights l.t l.z l.initial.sources l.initial.firsts l.initial.shares l.first l.sources l.firsts l.shares l.g
 
 abbrev pub decreases-loop-z : goal.decreases-loop-z
 decreases-loop-z l = zone_count - l.z

@@ -10,7 +10,7 @@ use Rattle.sources.proofs.groups.list_groups.Given as goal
 
 abbrev pub invariant-loop-t : goal.invariant-loop-t
 invariant-loop-t l =
-    (l.t ≤ l.n) × (length l.sources ≡ length l.marks) × (length l.firsts ≡ length l.initial.sources) × (length l.shares ≡ length l.initial.firsts) × (length l.groups ≡ length l.initial.shares)
+    (l.t ≤ l.n) × (length l.sources ≡ length l.initial.sources) × (length l.firsts ≡ length l.initial.firsts) × (length l.shares ≡ length l.initial.shares) × (length l.groups ≡ length l.initial.groups)
     × (l.g ≡ get_or l.groups l.t 0) × Listing l.moves l.n l.weights l.sources l.firsts l.shares l.groups l.t
 
 abbrev pub decreases-loop-t : goal.decreases-loop-t

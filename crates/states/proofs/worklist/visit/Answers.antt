@@ -64,7 +64,7 @@ returns-in-Signal c =
 
 pub returns-then-index-n : goal.returns-then-index-n
 returns-then-index-n c =
-    visit_known c.?Start.before.requires (sym c.?After-slice_known3.move-of.ensures ∙ c.in-Quiet.is) c.index_of-index.ensures (omega arith)
+    visit_known c.requires (sym c.move_of.ensures ∙ c.in-Quiet.is) c.index_of-index.ensures (omega arith)
 
 -- auto shape_of-found-then-n-lt-MAX_STATES
 
@@ -72,7 +72,7 @@ returns-then-index-n c =
 
 pub returns-then-n-lt-MAX_STATES : goal.returns-then-n-lt-MAX_STATES
 returns-then-n-lt-MAX_STATES c =
-    visit_new c.?Start.before.requires (sym c.?After-slice_known3.move-of.ensures ∙ c.in-Quiet.is) c.index_of-index.ensures (omega arith) (omega arith)
+    visit_new c.requires (sym c.move_of.ensures ∙ c.in-Quiet.is) c.index_of-index.ensures (omega arith) (omega arith)
 
 -- auto shape_of-found-else-n-lt-MAX_STATES
 
@@ -80,4 +80,4 @@ returns-then-n-lt-MAX_STATES c =
 
 pub returns-else-n-lt-MAX_STATES : goal.returns-else-n-lt-MAX_STATES
 returns-else-n-lt-MAX_STATES c =
-    visit_over c.?Start.before.requires (sym c.?After-slice_known3.move-of.ensures ∙ c.in-Quiet.is) c.index_of-index.ensures (omega arith) (omega arith)
+    visit_over c.requires (sym c.move_of.ensures ∙ c.in-Quiet.is) c.index_of-index.ensures (omega arith) (omega arith)

@@ -2,8 +2,8 @@
 use mathlib.Core.Path.{◌≡◌, refl, sym, ◌∙◌}
 use denote.Enum.Declared.{tag_of}
 use Rattle.rules.specs.contracts.Checked.{the_type}
-use Rattle.rules.specs.CheckLaws.{is_accepted}
-use Rattle.table.specs.ChainCheckLaws.{bad_rules}
+use Rattle.rules.proofs.CheckLaws.{is_accepted}
+use Rattle.table.proofs.ChainCheckLaws.{bad_rules}
 use borrow.Author.Rules.{rules}
 use Rattle.table.proofs.check.check_chain.Goals as goal
 

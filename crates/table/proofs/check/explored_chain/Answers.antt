@@ -1,7 +1,7 @@
 -- `check::explored_chain` meets its contract: a case of the chart's checks for each return.
 use mathlib.Core.Path.{◌≡◌, refl, sym, ◌∙◌}
 use native.Mathlib.Omega.{arith}
-use Rattle.table.specs.ChainCheckLaws.{bad_weights_lem, no_horizon, long_horizon, moves_made}
+use Rattle.table.proofs.ChainCheckLaws.{bad_weights_lem, no_horizon, long_horizon, moves_made}
 use borrow.Author.Rules.{rules}
 use Rattle.table.proofs.check.explored_chain.Goals as goal
 

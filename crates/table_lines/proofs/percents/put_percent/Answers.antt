@@ -1,7 +1,7 @@
 -- `table_lines::put_percent` meets its contract: the percent, the bracket, LF.
 use native.Mathlib.Omega.{arith}
 use Rattle.write.specs.WroteLaws.{then}
-use Rattle.write.specs.FieldLaws.{field_short}
+use Rattle.write.proofs.FieldLaws.{field_short}
 use Rattle.table_lines.specs.PercentLine.{percent_line}
 use borrow.Author.Rules.{rules}
 use Rattle.table_lines.proofs.percents.put_percent.Goals as goal

@@ -2,7 +2,7 @@
 use borrow.Author.Rules.{rules}
 use native.Mathlib.Omega.{arith}
 use Rattle.write.specs.WroteLaws.{then}
-use Rattle.write.specs.FieldLaws.{field_room_lem}
+use Rattle.write.proofs.FieldLaws.{field_room_lem}
 use Rattle.table_lines.specs.RowLine.{arl_line}
 use Rattle.table_lines.proofs.rows.put_arl.Goals as goal
 

@@ -3,7 +3,7 @@ use borrow.Author.Rules.{rules}
 use native.Mathlib.Omega.{arith}
 use Rattle.write.specs.WroteLaws.{then}
 use Rattle.write.specs.Field.{field}
-use Rattle.write.specs.FieldLaws.{field_room_lem}
+use Rattle.write.proofs.FieldLaws.{field_room_lem}
 use Rattle.table_lines.specs.RowLine.{row_line}
 use Rattle.table_lines.proofs.rows.put_row.Goals as goal
 

@@ -7,7 +7,7 @@ use Rattle.table_lines.specs.RowLineLaws.{rowed_start, rowed_sum, rowed_more, ro
 use Rattle.table_lines.proofs.rows.put_rows.Given as goal
 
 abbrev pub invariant-loop-i : goal.invariant-loop-i
-invariant-loop-i l = RowsWritten l.at l.h l.pmf l.survival l.initial.out l.out l.e l.cdf l.i
+invariant-loop-i l = RowsWritten l.initial.out l.at l.h l.pmf l.survival l.out l.e l.cdf l.i
 
 abbrev pub decreases-loop-i : goal.decreases-loop-i
-decreases-loop-i l = l.pmf - l.i
+decreases-loop-i l = l.h - l.i

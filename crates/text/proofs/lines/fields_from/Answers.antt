@@ -52,9 +52,9 @@ loop-i-preserved c =
 
 pub returns-in_default-past : goal.returns-in_default-past
 returns-in_default-past c =
-    c.no_line-in_default-past.ensures ∙ sym (line_goes_on _ _ _ _ _ c.?After-past-arg.loop-test.false (sym c.past.ensures ∙ c.in_default-past.is)) ∙ c.?After-loop.loop.invariant.3
+    c.no_line-in_default-past.ensures ∙ sym (line_goes_on _ _ _ _ _ c.loop-i-test.false (sym c.past.ensures ∙ c.in_default-past.is)) ∙ c.loop-i.invariant.3
 
 pub returns : goal.returns
 returns c =
-    let i = c.?After-loop.loop.invariant in 
-    sym (line_ends _ _ _ _ _ c.?After-past-arg.loop-test.false _ (sym c.past.ensures ∙ c.in-At.is) i.1 i.2) ∙ i.3
+    let i = c.loop-i.invariant in 
+    sym (line_ends _ _ _ _ _ c.loop-i-test.false _ (sym c.past.ensures ∙ c.in-At.is) i.1 i.2) ∙ i.3

@@ -21,14 +21,14 @@ returns-then-text-gt-MAX_TEXT c = c.refused_shift.ensures ∙ too_long_lem _ (om
 
 pub returns-in_default : goal.returns-in_default
 returns-in_default c =
-    c.refused_shift-in_default.ensures ∙ other_first _ (omega arith) c.?After-line_at.line_at_lem.ensures c.in_default.is
+    c.refused_shift-in_default.ensures ∙ other_first _ (omega arith) c.line_at-first.ensures c.in_default.is
 
 -- auto refused_shift-requires-then-next-text
 
 pub returns-then-next-text : goal.returns-then-next-text
 returns-then-next-text c =
     c.refused_shift-then-next-text.ensures
-    ∙ goes_on _ (omega arith) c.?After-line_at.line_at_lem.ensures c.in-At.is (omega arith)
+    ∙ goes_on _ (omega arith) c.line_at-first.ensures c.in-At.is (omega arith)
 
 -- auto bounds-values-0
 
@@ -36,4 +36,4 @@ returns-then-next-text c =
 
 pub returns : goal.returns
 returns c =
-    whole _ (omega arith) c.?After-line_at.line_at_lem.ensures c.in-At.is (to_z-of_z (search rules) ∙ c.signed_value.ensures) (omega arith)
+    whole _ (omega arith) c.line_at-first.ensures c.in-At.is (to_z-of_z (search rules) ∙ c.signed_value.ensures) (omega arith)

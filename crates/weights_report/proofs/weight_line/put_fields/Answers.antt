@@ -3,7 +3,7 @@ use borrow.Author.Rules.{rules}
 use Prim.Native.Nat.{◌-◌}
 use native.Mathlib.Omega.{arith}
 use lib.ListN.{length}
-use Rattle.write.specs.FieldLaws.{field_short}
+use Rattle.write.proofs.FieldLaws.{field_short}
 use Rattle.weights_report.specs.FieldsWrittenLaws.{FieldsWritten, fielded_start, fielded_more, fielded_done}
 use Rattle.weights_report.proofs.weight_line.put_fields.Goals as goal
 

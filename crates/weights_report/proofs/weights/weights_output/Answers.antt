@@ -1,6 +1,6 @@
 -- `weights_output` meets its contract: what the report wrote, or the line of its refusal.
 use borrow.Author.Rules.{rules}
-use Rattle.write.specs.PrintedLaws.{output_by}
+use Rattle.write.proofs.PrintedLaws.{output_by}
 use Rattle.weights_report.specs.WeightsReport.{weights_printed}
 use Rattle.weights_report.proofs.weights.weights_output.Goals as goal
 

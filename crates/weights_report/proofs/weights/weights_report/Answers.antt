@@ -1,7 +1,7 @@
 -- `weights_report::weights_report` meets its contract: the refusal, or the weights' line.
 use borrow.Author.Rules.{rules}
 use mathlib.Core.Path.{sym, ap, ◌∙◌}
-use Rattle.write.specs.PrintedLaws.{as_refused, as_written}
+use Rattle.write.proofs.PrintedLaws.{as_refused, as_written}
 use Rattle.weights_report.specs.WeightsReport.{weights_by, weights_printed}
 use Rattle.weights_report.proofs.weights.weights_report.Goals as goal
 

@@ -8,8 +8,6 @@ use Rattle.write.proofs.field.put_field.Goals as goal
 
 -- auto put_number-requires
 
--- auto shape_of-out
-
 pub returns : goal.returns
 unfolding field
 returns c = search then

@@ -7,7 +7,5 @@ use Rattle.write.proofs.field.put_named.Goals as goal
 
 -- auto put_field-requires
 
--- auto shape_of-out
-
 pub returns : goal.returns
 returns c = search then

@@ -7,7 +7,5 @@ use Rattle.write.proofs.put.put_byte.Goals as goal
 
 -- auto overflow_add-result
 
--- auto shape_of-out
-
 pub returns : goal.returns
 returns c = wrote_byte _ _ _ c.requires

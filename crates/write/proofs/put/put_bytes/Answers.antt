@@ -29,7 +29,5 @@ loop-i-preserved c =
 
 -- auto overflow_add-result
 
--- auto shape_of-out
-
 pub returns : goal.returns
 returns c = wrote_all _ _ _ _ _ c.loop-i.invariant.2 c.loop-i-test.false

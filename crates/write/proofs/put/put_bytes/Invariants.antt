@@ -10,7 +10,7 @@ use Rattle.write.specs.WroteLaws.{wrote_nothing, wrote_next, wrote_all}
 use Rattle.write.proofs.put.put_bytes.Given as goal
 
 abbrev pub invariant-loop-i : goal.invariant-loop-i
-invariant-loop-i l = (l.i ≤ length l.initial.out) × (length l.out ≡ length l.at) × Wrote l.at l.words l.out (l.words + l.i) (take l.i l.initial.out)
+invariant-loop-i l = (l.i ≤ length l.words) × (length l.out ≡ length l.initial.out) × Wrote l.initial.out l.at l.out (l.at + l.i) (take l.i l.words)
 
 abbrev pub decreases-loop-i : goal.decreases-loop-i
-decreases-loop-i l = length l.initial.out - l.i
+decreases-loop-i l = length l.words - l.i

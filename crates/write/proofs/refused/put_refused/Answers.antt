@@ -2,7 +2,7 @@
 use borrow.Author.Rules.{rules}
 use native.Mathlib.Omega.{arith}
 use Rattle.write.specs.WroteLaws.{then}
-use Rattle.write.specs.FieldLaws.{field_short}
+use Rattle.write.proofs.FieldLaws.{field_short}
 use Rattle.write.specs.Refused.{refused_line}
 use Rattle.write.proofs.refused.put_refused.Goals as goal
 
@@ -18,8 +18,6 @@ put_field-b-requires c = omega (arith, field_short)
 
 pub put_byte-requires : goal.put_byte-requires
 put_byte-requires c = omega (arith, field_short)
-
--- auto shape_of-out
 
 pub returns : goal.returns
 unfolding refused_line

@@ -1,0 +1,21 @@
+-- The laws of the definitions in specs/.
+pub mod ExactLaws
+pub mod MonitorLaws
+pub mod ContainsLaws
+pub mod NamedLaws
+pub mod CountedLaws
+pub mod ByRowLaws
+pub mod RefusedCallLaws
+pub mod Demand1
+pub mod Demand2
+pub mod Demand3
+pub mod FewestStates
+pub mod WithoutCentreLaws
+pub mod CentreLineLaws
+pub mod CentreLine
+pub mod EightZonesLaws
+pub mod EightZones
+pub mod MarkedLaws
+pub mod Marked
+pub mod BoxPlotLaws
+pub mod BoxPlot

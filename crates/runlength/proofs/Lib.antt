@@ -1,0 +1,22 @@
+-- The laws of the definitions in specs/.
+pub mod TotalMassLaws
+pub mod CdfLaws
+pub mod FlowLaws
+pub mod BackLaws
+pub mod ConservationLaws
+pub mod UnitsLaws
+pub mod CdfBoundsLaws
+pub mod MeanLaws
+pub mod RestrictedMeanLaws
+pub mod FutureLaws
+pub mod ApartLaws
+pub mod ReorderLaws
+pub mod LowestLaws
+pub mod LeadLaws
+pub mod ClassLaws
+pub mod FewestLaws
+pub mod MergedLaws
+pub mod PercentileLaws
+pub mod PercentBoundsLaws
+pub mod ListedLaws
+pub mod LeastLaws

@@ -1,0 +1,4 @@
+-- The laws of the definitions in specs/.
+pub mod ValidLaws
+pub mod RowLaws
+pub mod GivenLaws
