@@ -62,9 +62,7 @@ pub fn print(out: &impl Print, before: &[u8], n: u64, places: u32) -> io::Result
         return Ok(());
     }
     show::text(out, b".")?;
-    let mut left = places;
-    while left > 0 {
-        left -= 1;
+    for left in (0..places).rev() {
         show::number(out, b"", n / ten_to(left) % 10)?;
     }
     Ok(())

@@ -53,11 +53,9 @@ fn near(z: usize, most: u64) -> u64
 
 // How many they are.
 fn within(most: u64) -> u64 {
-    let mut z = 0;
     let mut count: u64 = 0;
-    while z <= LAST {
+    for z in 0..=LAST {
         count = (count + near(z, most)) % 1000;
-        z += 1;
     }
     count
 }
@@ -65,10 +63,8 @@ fn within(most: u64) -> u64 {
 // Each entry, and then how many are met: the nearest to an area that rounds to what is printed, so at most half a unit of ours and half of the
 // printed last place off. What is printed, rounded once more to our unit, is the entry where it is at most half a unit off.
 pub fn areas(out: &impl Print) -> io::Result<()> {
-    let mut z = 0;
-    while z <= LAST {
+    for z in 0..=LAST {
         show_area(out, z)?;
-        z += 1;
     }
     show::number(
         out,

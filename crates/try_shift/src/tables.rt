@@ -41,10 +41,8 @@ fn shift_at(t: u32) -> i32 {
 }
 
 pub fn every_shift(out: &impl Print) -> io::Result<()> {
-    let mut t: u32 = 0;
-    while t <= 300 {
+    for t in 0..=300 {
         one_shift(out, shift_at(t))?;
-        t += 1;
     }
     Ok(())
 }
