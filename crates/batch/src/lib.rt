@@ -1,4 +1,6 @@
 // A batch of readings on one chart: what the rule list alone decides is decided once.
+#![tactic(auto)]
+
 ghost use Rattle.std.specs.Prelude.{◌≡◌};
 ghost use Rattle.monitor.specs.Reading.{Readable};
 ghost use Rattle.batch.specs.Batch.{none_taken, readings_from, batch_of};

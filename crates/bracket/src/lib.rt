@@ -1,4 +1,6 @@
 // The percentile bracket of a list of chances: where the percentile lies, by two bounds of it.
+#![tactic(auto)]
+
 ghost use Rattle.std.specs.Prelude.{◌≡◌, leb, length};
 ghost use Rattle.rules.specs.Refusal.{refusal};
 ghost use Rattle.runlength.specs.Scale.{units_per_one};

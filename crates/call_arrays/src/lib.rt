@@ -1,4 +1,6 @@
 // Answers as codes, and in the arrays that a caller lends: what the exported functions are made of.
+#![tactic(auto)]
+
 mod batches;
 mod brackets;
 mod reports;

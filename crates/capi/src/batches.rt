@@ -14,8 +14,7 @@ use monitor::Monitor;
 // and in `answer` how many readings were taken, the count and the mask of the last of them (the mask is 0 where all were quiet), and the
 // number that the next reading would be refused by where that stopped it, or 0. Or, where any first reading would be refused, also where there
 // is none, answers that refusal and alters nothing.
-#[unsafe(no_mangle)]
-pub extern "C" fn catrovindy_batch(
+pub fn catrovindy_batch(
     slots: &[u32; SLOTS],
     count: u32,
     state: &mut [u64; 1],

@@ -9,8 +9,7 @@ use codes::sizes::BRACKET_ANSWER;
 
 // The percentile bracket: `bracket::percentile_bracket`. Answers 0 and writes 1, n, n for at n; 2, low, high for between; 3, low, 0 for
 // open; 4, the list's length, 0 for beyond; or answers the refusal and alters nothing.
-#[unsafe(no_mangle)]
-pub extern "C" fn catrovindy_bracket(
+pub fn catrovindy_bracket(
     pmf: &[u64],
     state_count: u32,
     percent: u32,

@@ -1,4 +1,6 @@
 // The exported functions, for callers in C and Rust: numbers, fixed-size arrays and slices.
+#![tactic(auto)]
+
 mod batches;
 mod brackets;
 mod lists;

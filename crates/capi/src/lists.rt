@@ -13,8 +13,7 @@ use rules::Checked;
 pub const VERSION: u32 = 800;
 
 // Whether a rule list is accepted: `RuleList::check`. Answers 0, or the refusal.
-#[unsafe(no_mangle)]
-pub extern "C" fn catrovindy_check(slots: &[u32; SLOTS], count: u32) -> u64
+pub fn catrovindy_check(slots: &[u32; SLOTS], count: u32) -> u64
     ensures { result ≡ check_code (check_of (slot_list slots.now count)) }
 {
     let checked = list_of(*slots, count).check();
@@ -25,8 +24,7 @@ pub extern "C" fn catrovindy_check(slots: &[u32; SLOTS], count: u32) -> u64
 }
 
 // The library's version as one number.
-#[unsafe(no_mangle)]
-pub extern "C" fn catrovindy_version() -> u32
+pub fn catrovindy_version() -> u32
     ensures { result ≡ version }
 {
     VERSION

@@ -10,8 +10,7 @@ use monitor::zone::{ZoneAnswer, zone_of};
 use monitor::{Monitor, Step};
 
 // The zone of a reading: `monitor::zone::zone_of`. Answers 0 and writes the zone; or answers the refusal and alters nothing.
-#[unsafe(no_mangle)]
-pub extern "C" fn catrovindy_zone(reading: i32, centre: i32, sigma: u32, zone: &mut [u32; 1]) -> u64
+pub fn catrovindy_zone(reading: i32, centre: i32, sigma: u32, zone: &mut [u32; 1]) -> u64
     ensures { ZoneCall reading centre sigma zone.old zone.new result }
 {
     match zone_of(reading, centre, sigma) {
@@ -25,8 +24,7 @@ pub extern "C" fn catrovindy_zone(reading: i32, centre: i32, sigma: u32, zone: &
 
 // One point: `Monitor::step`. Answers 0, with the monitor for the next point, and in `answer` the count with this point in it and the mask
 // of the rules that hold, 0 for quiet; or answers the refusal and alters nothing.
-#[unsafe(no_mangle)]
-pub extern "C" fn catrovindy_step(
+pub fn catrovindy_step(
     slots: &[u32; SLOTS],
     count: u32,
     state: &mut [u64; 1],

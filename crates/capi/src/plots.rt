@@ -13,8 +13,7 @@ use rules::ZONES;
 // percentiles 5, 25, 50, 75, 95, and 1 or 0 for whether there is an interquartile range; to `values` two doubles for each percentile (a span
 // has two, the others one that stands twice), the mean's lower and upper value and the interquartile range. Or answers the refusal and alters
 // nothing.
-#[unsafe(no_mangle)]
-pub extern "C" fn catrovindy_plot(
+pub fn catrovindy_plot(
     slots: &[u32; SLOTS],
     count: u32,
     weights: &[u32; ZONES],

@@ -9,8 +9,7 @@ use call_arrays::report_code;
 
 // The table program's lines for a text: `table_report::table_report`. Answers 0, with the lines in `out` and their number of bytes in `bytes`; or
 // answers the refusal and alters nothing.
-#[unsafe(no_mangle)]
-pub extern "C" fn catrovindy_table_report(
+pub fn catrovindy_table_report(
     text: &[u8],
     out: &mut [u8; table_report::TABLE_SIZE],
     bytes: &mut [u64; 1],
@@ -23,8 +22,7 @@ pub extern "C" fn catrovindy_table_report(
 
 // The monitor program's lines for a text: `monitor_report::monitor_report`. Answers 0, with the lines in `out` and their number of bytes in `bytes`;
 // or answers the refusal and alters nothing.
-#[unsafe(no_mangle)]
-pub extern "C" fn catrovindy_monitor_report(
+pub fn catrovindy_monitor_report(
     text: &[u8],
     out: &mut [u8; monitor_report::MONITOR_SIZE],
     bytes: &mut [u64; 1],
@@ -37,8 +35,7 @@ pub extern "C" fn catrovindy_monitor_report(
 
 // The weights program's line for a text: `weights_report::weights_report`. Answers 0, with the line in `out` and its number of bytes in `bytes`; or
 // answers the refusal and alters nothing.
-#[unsafe(no_mangle)]
-pub extern "C" fn catrovindy_weights_report(
+pub fn catrovindy_weights_report(
     text: &[u8],
     out: &mut [u8; weights_report::WEIGHTS_SIZE],
     bytes: &mut [u64; 1],

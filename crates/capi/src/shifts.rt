@@ -6,8 +6,7 @@ use rules::{ZONES, weight_array};
 use shift::ShiftAnswer;
 
 // The weights for a shift: `shift::shift_weights`. Answers 0 and writes the weights from zone 0 on; or answers the refusal and alters nothing.
-#[unsafe(no_mangle)]
-pub extern "C" fn catrovindy_shift_weights(shift: i32, weights: &mut [u32; ZONES]) -> u64
+pub fn catrovindy_shift_weights(shift: i32, weights: &mut [u32; ZONES]) -> u64
     ensures { ShiftCall shift weights.old weights.new result }
 {
     let answer = shift::shift_weights(shift);

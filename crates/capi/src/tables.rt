@@ -10,8 +10,7 @@ use table::TableAnswer;
 
 // The run-length table: `table::run_length_table`. Answers 0 and writes N, left at the horizon and the cut mean's whole part and fraction
 // to `figures`; or answers the refusal and alters nothing.
-#[unsafe(no_mangle)]
-pub extern "C" fn catrovindy_table(
+pub fn catrovindy_table(
     slots: &[u32; SLOTS],
     count: u32,
     weights: &[u32; ZONES],

@@ -8,7 +8,7 @@ use Rattle.chain.specs.declared.ChainAnswer.TheVariants.{Accepted, Refused}
 use Rattle.chain.specs.TableChain.{explored_count}
 use Rattle.chain.specs.HeldMoves.{HoldsMoves}
 
--- 10, where there are too many before merging, with the list as it was lent; or the number of states that differ, with their moves in the list
-abbrev pub ChainMade : List Rule → List ℕ → List ℕ → ChainAnswer → Type 0
-ChainMade rs before m (Accepted n) = (explored_count rs ≤ max_states) × HoldsMoves rs n m
-ChainMade rs before m (Refused x) = (max_states < explored_count rs) × (x ≡ too_many_states 0) × (m ≡ before)
+-- 10, where there are too many before merging; or the number of states that differ, with their moves in the list
+abbrev pub ChainMade : List Rule → List ℕ → ChainAnswer → Type 0
+ChainMade rs m (Accepted n) = (explored_count rs ≤ max_states) × HoldsMoves rs n m
+ChainMade rs m (Refused x) = (max_states < explored_count rs) × (x ≡ (too_many_states 0))

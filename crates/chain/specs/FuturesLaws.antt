@@ -68,6 +68,43 @@ module _ (rs : List Rule) (few : explored_count rs ≤ max_states) where
         λ e. sym same ∙ future_alike (given rs) (n rs) p.0 q.0 (to_indices p.1 q.1 e),
       )
 
+  -- ---- one state of each future
+
+  -- the state of a class
+  abbrev pub state_of_class : ℕ → ℕ
+  state_of_class c = at (met rs) (first_of (given rs) (n rs) c)
+
+  standing : (c : ℕ) → c < state_count rs → At (met rs) (first_of (given rs) (n rs) c) (state_of_class c)
+  unfolding state_count explored_count merged_count
+  standing c h = record { below = (first_of_lem (given rs) (n rs) c h).below; is = refl }
+
+  pub class_met : (c : ℕ) → c < state_count rs → Met by_state (state_of_class c)
+  class_met c h = (states_met by_state).met (first_of (given rs) (n rs) c) (standing c h).below
+
+  -- no two have equal futures
+  pub classes_apart : (c d : ℕ) → c < d → d < state_count rs → EqualFuture by_state by_state (state_of_class c) (state_of_class d) → ⊥
+  unfolding state_count explored_count merged_count
+  classes_apart c d l h e =
+      let p = first_of_lem (given rs) (n rs) c (omega arith) in
+      let q = first_of_lem (given rs) (n rs) d h in
+      let f = to_indices (standing c (omega arith)) (standing d h) e in
+      let same = (class_future (given rs) (n rs) closed (first_of (given rs) (n rs) c) (first_of (given rs) (n rs) d) p.below q.below).1 f in
+      omega (arith, p.class, q.class)
+
+  -- each state that is met has the future of one
+  pub classes_all : {s : ℕ} → Met by_state s → (c : ℕ) × (c < state_count rs) × EqualFuture by_state by_state s (state_of_class c)
+  unfolding state_count explored_count merged_count
+  classes_all {s} m =
+      let p = index m in
+      let c = class_of (given rs) (n rs) p.0 in
+      let h = class_below (given rs) (n rs) p.0 p.1.below in
+      let f = first_of_lem (given rs) (n rs) c h in (
+        c,
+        h,
+        from_indices p.1 (standing c h)
+            ((class_future (given rs) (n rs) closed p.0 (first_of (given rs) (n rs) c) p.1.below f.below).0 (sym f.class)),
+      )
+
   -- ---- the chain has one state of each future
 
   abbrev chain : Automaton ℕ

@@ -6,4 +6,5 @@ pub mod FuturesLaws
 pub mod PrefixLaws
 pub mod HeldMoves
 pub mod ChainMade
+pub mod KeepsMoves
 pub mod HeldMovesLaws

@@ -1,9 +1,12 @@
 // The chain of a rule list: its states explored and merged, and their moves.
+#![tactic(auto)]
+
 ghost use Rattle.std.specs.Prelude.{◌≡◌, ◌*◌, length};
 ghost use Rattle.rules.specs.Bounds.{zone_count, max_states};
 ghost use Rattle.rules.specs.Check.{active_rules, check_of};
 ghost use Rattle.rules.specs.declared.Checked.TheVariants.{Accepted};
 ghost use Rattle.chain.specs.ChainMade.{ChainMade};
+ghost use Rattle.chain.specs.KeepsMoves.{KeepsMoves};
 
 use rules::{Refusal, RuleList, ZONES};
 
@@ -19,7 +22,8 @@ pub enum ChainAnswer {
 pub fn chain_moves(list: RuleList, moves: &mut [u16]) -> ChainAnswer
     requires list_value { check_of list ≡ Accepted }
     requires moves_len { length moves.old ≡ zone_count * max_states }
-    ensures { ChainMade (active_rules list) moves.old moves.new result }
+    ensures made { ChainMade (active_rules list) moves.new result }
+    ensures kept { KeepsMoves moves.old moves.new result }
 {
     let mut found = [0u64; RuleList::MAX_STATES];
     let mut explored = [0u16; ZONES * RuleList::MAX_STATES];

@@ -23,7 +23,7 @@ use Rattle.states.specs.Automata.{state_automaton, reference_automaton}
 use Rattle.chain.specs.TableChain.{explored_count, state_count, table_automaton, table_chain}
 use Rattle.chain.specs.TableChainLaws.{count_some, count_explored, chain_future}
 use Rattle.chain.specs.FuturesLaws.{chain_closed, state_class, class_state, one_class, chain_apart}
-use Rattle.claims.specs.Counted.{QuietRow, SameFuture, OneOfEach, CountsFutures}
+use Rattle.claims.specs.Counted.{QuietRow, SameFuture, OneOfEach, CountsRows}
 use Rattle.claims.proofs.CountedLaws.{quiet_met, met_quiet, row_future}
 use Rattle.claims.specs.ByRow.{alike_rows, row_inflow, row_signalled, row_units, row_chance, row_left, row_mean}
 
@@ -112,8 +112,8 @@ module _ (rs : List Rule) (bounds : AllInBounds rs) (few : explored_count rs ≤
   of_class c h (yes l) = ((class_row c l).1, (class_row c l).2)
   of_class c h (no l) = absurd (l h)
 
-  pub counts_futures : CountsFutures rs size
-  counts_futures = record {
+  pub counts_rows : CountsRows rs size
+  counts_rows = record {
     rows = λ c. row_of c (dec_lt c size);
     each = record {
       quiet_row = λ c h. (of_class c h (dec_lt c size)).0;

@@ -20,8 +20,9 @@ use Rattle.states.specs.Automata.{automaton_move, state_automaton, reference_aut
 use Rattle.states.specs.AutomataLaws.{reference_future}
 use Rattle.states.specs.CountLaws.{states_too_many}
 use Rattle.states.specs.StatesLaws.{states_distinct, states_met, states_all}
-use Rattle.chain.specs.TableChain.{explored_count}
-use Rattle.claims.specs.Counted.{QuietRow, empty, point, OfQuietRow, CountsStates, TooManyStates, SameFuture, OneOfEach}
+use Rattle.chain.specs.TableChain.{explored_count, state_count}
+use Rattle.chain.specs.FuturesLaws.{state_of_class, class_met, classes_apart, classes_all}
+use Rattle.claims.specs.Counted.{QuietRow, empty, point, OfQuietRow, CountsStates, ListsStates, TooManyStates, SameFuture, CountsFutures, OneOfEach}
 
 -- ---- one row of each future: however they are taken, they are as many
 
@@ -96,9 +97,20 @@ module _ (rs : List Rule) (bounds : AllInBounds rs) where
     few_met = few
 
     -- the states explored of a list that is not refused by 10 are exactly these
-    pub counts_states : CountsStates rs (states (state_automaton rs)) (explored_count rs)
+    pub counts_states : CountsStates rs (explored_count rs)
     unfolding explored_count
     counts_states = record {
+      list = met;
+      count = refl;
+      distinct = states_distinct (state_automaton rs);
+      each = λ i h. met_quiet ((states_met (state_automaton rs)).met i h);
+      all = λ row q. let p = (states_all (state_automaton rs) few_met).index (state_of_row rs row) (quiet_met q) in (p.0, p.1.below, p.1.is);
+    }
+
+    -- and the list of them has each once
+    pub lists_states : ListsStates rs (states (state_automaton rs)) (explored_count rs)
+    unfolding explored_count
+    lists_states = record {
       count = refl;
       distinct = states_distinct (state_automaton rs);
       each = λ i h. met_quiet ((states_met (state_automaton rs)).met i h);
@@ -114,3 +126,29 @@ module _ (rs : List Rule) (bounds : AllInBounds rs) where
   row_future (point {row} z q zone none) =
       rw (move_of_row rs bounds row z, eq-eqb (row_mask rs (z ∷ row)) 0 none) at
       (future_step (reference_automaton rs) (state_automaton rs) (row_future q) z zone)
+
+  module _ (few : explored_count rs ≤ max_states) where
+    -- the quiet row of a state that is met, with the state's future
+    quiet_row : (c : ℕ) → c < state_count rs → OfQuietRow rs (state_of_class rs few c)
+    quiet_row c h = met_quiet (class_met rs few c h)
+
+    class_row : (c : ℕ) (h : c < state_count rs)
+        → EqualFuture (reference_automaton rs) (state_automaton rs) (quiet_row c h).row (state_of_class rs few c)
+    class_row c h = rw (quiet_row c h).state (row_future (quiet_row c h).quiet_row)
+
+    -- N counts exactly the futures of quiet rows
+    pub counts_futures : CountsFutures rs (state_count rs)
+    counts_futures =
+        let plain = reference_automaton rs in
+        let chart = state_automaton rs in
+        record {
+          row = λ c h. (quiet_row c h).row;
+          quiet_row = λ c h. (quiet_row c h).quiet_row;
+          differ = λ c d h l k e.
+              classes_apart rs few c d k l
+              (future_trans chart plain chart (future_sym plain chart (class_row c h)) (future_trans plain plain chart e (class_row d l)));
+          all = λ r q.
+              let o = classes_all rs few (quiet_met q) in
+              let back = future_sym plain chart (class_row o.0 o.1) in
+              (o.0, o.1, future_trans plain chart plain (row_future q) (future_trans chart chart plain o.2 back));
+        }

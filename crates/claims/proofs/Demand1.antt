@@ -20,7 +20,7 @@ use Rattle.table.specs.declared.TableAnswer.{TableAnswer}
 use Rattle.table.specs.Table.{TableCall, rules_of, table_of}
 use Rattle.plot.specs.declared.BoxPlotAnswer.{BoxPlotAnswer}
 use Rattle.plot.specs.Plot.{box_plot_of}
-use Rattle.claims.specs.Counted.{CountsStates, TooManyStates}
+use Rattle.claims.specs.Counted.{ListsStates, TooManyStates}
 use Rattle.claims.proofs.RefusedCallLaws.{refused_by_5 as refused-by-5-proved, refused_by_10 as refused-by-10-proved, counted_unless_10 as counted-unless-10-proved}
 use Rattle.claims.proofs.RefusedCallLaws.{refused_table_keeps as refused-table-keeps-proved, refused_plot_keeps as refused-plot-keeps-proved}
 
@@ -38,7 +38,7 @@ module _ (t : TableCall) (rules : check_of t.list ≡ Accepted) (weights : sum z
 
   -- And else they are counted, before any is merged: the list explored has each of them once.
   pub counted_unless_10 : ((table_of t).answer ≡ TableAnswer.Refused (too_many_states 0) → ⊥)
-      → CountsStates (rules_of t) (states (state_automaton (rules_of t))) (explored_count (rules_of t))
+      → ListsStates (rules_of t) (states (state_automaton (rules_of t))) (explored_count (rules_of t))
   counted_unless_10 = counted-unless-10-proved t rules weights some most
 
 -- ---- a refusal alters nothing

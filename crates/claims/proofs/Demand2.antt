@@ -10,12 +10,15 @@ use Rattle.window.specs.ReferenceChart.{rule_holds, row_mask}
 use Rattle.runlength.specs.Sum.{at, sum}
 use Rattle.runlength.specs.SumLaws.{sum_cong}
 use Rattle.runlength.specs.Chain.{cdf, cdf_of}
+use Rattle.runlength.specs.Future.{EqualFuture}
 use Rattle.monitor.specs.Step.{fresh_monitor}
 use Rattle.monitor.specs.Calls.{monitor_answers}
 use Rattle.monitor.proofs.AgreementLaws.{monitor_agrees, mask_names_rules as mask-names-rules-proved}
-use Rattle.states.specs.States.{states}
+use Rattle.states.specs.States.{Met, states}
 use Rattle.states.specs.Automata.{state_automaton}
 use Rattle.chain.specs.TableChain.{explored_count, state_count}
+use Rattle.chain.specs.ByState.{alike_states}
+use Rattle.chain.specs.FuturesLaws.{alike_exactly}
 use Rattle.table.specs.declared.TableFigures.{TableFigures}
 use Rattle.table.specs.declared.TableAnswer.{TableAnswer}
 use Rattle.table.specs.Table.{TableCall, rules_of, table_of, pmf_of, mean_of}
@@ -23,10 +26,10 @@ use Rattle.table.specs.AcceptedTable.{AcceptedTable}
 use Rattle.table.proofs.AcceptedTableLaws.{accepted_table}
 use Rattle.claims.specs.Named.{EachAnswered}
 use Rattle.claims.proofs.NamedLaws.{chart_answered}
-use Rattle.claims.specs.Counted.{QuietRow, CountsStates, SameFuture, OneOfEach, CountsFutures}
-use Rattle.claims.proofs.CountedLaws.{count_once, counts_states}
+use Rattle.claims.specs.Counted.{QuietRow, CountsStates, ListsStates, SameFuture, OneOfEach, CountsFutures, CountsRows}
+use Rattle.claims.proofs.CountedLaws.{count_once, counts_states, lists_states, counts_futures}
 use Rattle.claims.specs.ByRow.{alike_rows, row_chance, row_left, row_mean}
-use Rattle.claims.proofs.ByRowLaws.{counts_futures, alike_rows_exactly, row_chance_lem, row_left_lem, row_mean_lem}
+use Rattle.claims.proofs.ByRowLaws.{counts_rows, alike_rows_exactly, row_chance_lem, row_left_lem, row_mean_lem}
 
 -- ---- the monitor
 
@@ -46,20 +49,33 @@ module _ (t : TableCall) (f : TableFigures) (accepted : (table_of t).answer ≡ 
   call = accepted_table t f accepted
 
   -- The number that 10 looks at counts exactly the states of the rows that all zone sequences with no signal make, before any is merged.
-  pub explored_counted : CountsStates (rules_of t) (states (state_automaton (rules_of t))) (explored_count (rules_of t))
+  pub explored_counted : CountsStates (rules_of t) (explored_count (rules_of t))
   explored_counted = counts_states (rules_of t) call.chain.bounds call.chain.few
 
-  -- N counts exactly the futures that these rows have: there are N of them, one of each future.
+  -- And the list explored has each of them once.
+  pub explored_listed : ListsStates (rules_of t) (states (state_automaton (rules_of t))) (explored_count (rules_of t))
+  explored_listed = lists_states (rules_of t) call.chain.bounds call.chain.few
+
+  -- N counts exactly the futures that these rows have.
   pub states_counted : CountsFutures (rules_of t) f.state_count
   states_counted = rw call.count_is (counts_futures (rules_of t) call.chain.bounds call.chain.few)
 
+  -- There are N of them, one of each future.
+  pub rows_counted : CountsRows (rules_of t) f.state_count
+  rows_counted = rw call.count_is (counts_rows (rules_of t) call.chain.bounds call.chain.few)
+
   -- No other number counts them.
-  pub states_counted_once : (n : ℕ) → CountsFutures (rules_of t) n → n ≡ f.state_count
-  states_counted_once n c = count_once c.each states_counted.each
+  pub rows_counted_once : (n : ℕ) → CountsRows (rules_of t) n → n ≡ f.state_count
+  rows_counted_once n c = count_once c.each rows_counted.each
+
+  -- Two states that zone sequences meet with no signal are alike, so taken as one, exactly where they have equal futures.
+  pub alike_futures : {r s : ℕ} → Met (state_automaton (rules_of t)) r → Met (state_automaton (rules_of t)) s
+      → (alike_states (rules_of t) r s ≡ true) ↔ EqualFuture (state_automaton (rules_of t)) (state_automaton (rules_of t)) r s
+  alike_futures p q = alike_exactly (rules_of t) call.chain.few p q
 
   -- Two quiet rows are taken as one exactly where every continuation first signals at the same point of the plain chart from both.
-  pub alike_futures : {r s : List ℕ} → QuietRow (rules_of t) r → QuietRow (rules_of t) s → (alike_rows (rules_of t) r s ≡ true) ↔ SameFuture (rules_of t) r s
-  alike_futures p q = alike_rows_exactly (rules_of t) call.chain.bounds call.chain.few p q
+  pub alike_rows_futures : {r s : List ℕ} → QuietRow (rules_of t) r → QuietRow (rules_of t) s → (alike_rows (rules_of t) r s ≡ true) ↔ SameFuture (rules_of t) r s
+  alike_rows_futures p q = alike_rows_exactly (rules_of t) call.chain.bounds call.chain.few p q
 
   -- For EVERY N quiet rows, one of each future, whichever are taken:
   module _ (rows : ℕ → List ℕ) (each : OneOfEach (rules_of t) rows f.state_count) where

@@ -1,6 +1,7 @@
 -- CLAIMS: of an accepted call, the chain that the table runs on first signals on the same sequences as the plain chart; it has N states; and no
 -- chart moved by zones alone that first signals on these sequences has fewer, whatever its states are.
-use Rattle.std.specs.Prelude.{◌≡◌, List, [], length}
+use Rattle.std.specs.Prelude.{◌≤◌, ◌≡◌, List, [], length}
+use Rattle.runlength.specs.Automaton.{Automaton}
 use Rattle.runlength.specs.Sum.{tab}
 use Rattle.runlength.specs.TabLaws.{length_tab}
 use Rattle.runlength.specs.Future.{EqualFuture, SameFirstSignals}
@@ -36,10 +37,14 @@ module _ (t : TableCall) (f : TableFigures) (accepted : (table_of t).answer ≡ 
   pub merged_chain_size : length (tab f.state_count (λ i. i)) ≡ f.state_count
   merged_chain_size = length_tab f.state_count (λ i. i)
 
-  -- No chart moved by zones alone that first signals on the plain chart's sequences has fewer than N states, whatever its states are.
-  pub fewest_states : NoneFewer (rules_of t) f.state_count
-  fewest_states = record {
-    longer = λ {B} b xs holds same.
-        rw call.count_is
-        (chain_fewest (rules_of t) call.chain.few call.chain.bounds b xs holds (first_future (reference_automaton (rules_of t)) b same));
-  }
+  -- Every chart moved by zones alone, its states of any type, with a list of states that holds its start and all that quiet moves lead to, which
+  -- first signals on the same sequences as the plain chart: the list is at least N long.
+  pub fewest_states : {B : Type 0} (b : Automaton B) (xs : List B) → HoldsStates b xs
+      → SameFirstSignals (reference_automaton (rules_of t)) b [] b.start → f.state_count ≤ length xs
+  fewest_states b xs holds same =
+      rw call.count_is
+      (chain_fewest (rules_of t) call.chain.few call.chain.bounds b xs holds (first_future (reference_automaton (rules_of t)) b same))
+
+  -- In one word: no such chart has fewer than N states.
+  pub none_fewer_states : NoneFewer (rules_of t) f.state_count
+  none_fewer_states = record { longer = λ {B} b xs holds same. fewest_states b xs holds same }

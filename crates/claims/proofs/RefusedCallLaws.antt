@@ -33,8 +33,8 @@ use Rattle.summary.proofs.SummaryLaws.{refused_table_lem}
 use Rattle.summary.specs.declared.SummaryAnswer.{SummaryAnswer}
 use Rattle.plot.specs.declared.BoxPlotAnswer.{BoxPlotAnswer}
 use Rattle.plot.specs.Plot.{plot_by, box_plot_of}
-use Rattle.claims.specs.Counted.{CountsStates, TooManyStates}
-use Rattle.claims.proofs.CountedLaws.{counts_states, too_many}
+use Rattle.claims.specs.Counted.{ListsStates, TooManyStates}
+use Rattle.claims.proofs.CountedLaws.{lists_states, too_many}
 
 -- ---- refusal 5
 
@@ -108,10 +108,10 @@ module _ (t : TableCall) (rules : check_of t.list ≡ Accepted) (weights : sum z
 
   -- And else they are counted.
   pub counted_unless_10 : ((table_of t).answer ≡ TableAnswer.Refused (too_many_states 0) → ⊥)
-      → CountsStates (rules_of t) (states (state_automaton (rules_of t))) (explored_count (rules_of t))
+      → ListsStates (rules_of t) (states (state_automaton (rules_of t))) (explored_count (rules_of t))
   counted_unless_10 other = ⊎_elim
       (λ (h : max_states < explored_count (rules_of t)). absurd (other (refused_by_10.1 ((too_many (rules_of t) bounds).0 h))))
-      (λ (h : explored_count (rules_of t) ≤ max_states). counts_states (rules_of t) bounds h)
+      (λ (h : explored_count (rules_of t) ≤ max_states). lists_states (rules_of t) bounds h)
       (lt_or_le max_states (explored_count (rules_of t)))
 
 -- ---- a refusal alters nothing

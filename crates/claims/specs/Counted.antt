@@ -23,9 +23,16 @@ pub record OfQuietRow (rs : List Rule) (s : ℕ) : Type 0 where
   pub quiet_row : QuietRow rs row
   pub state : s ≡ state_of_row rs row
 
--- the list has exactly the states of quiet rows, and n counts them: n different ones, each of some quiet row, and the state of every quiet row
--- among them
-pub record CountsStates (rs : List Rule) (list : List ℕ) (n : ℕ) : Type 0 where
+-- n counts exactly the states of quiet rows: a list of n different ones, each of some quiet row, and the state of every quiet row among them
+pub record CountsStates (rs : List Rule) (n : ℕ) : Type 0 where
+  pub list : List ℕ
+  pub count : n ≡ length list
+  pub distinct : Distinct list
+  pub each : (i : ℕ) → i < length list → OfQuietRow rs (at list i)
+  pub all : (row : List ℕ) → QuietRow rs row → (i : ℕ) × (i < length list) × (at list i ≡ state_of_row rs row)
+
+-- the same of the list that is given: it has exactly the states of quiet rows, and n counts them
+pub record ListsStates (rs : List Rule) (list : List ℕ) (n : ℕ) : Type 0 where
   pub count : n ≡ length list
   pub distinct : Distinct list
   pub each : (i : ℕ) → i < length list → OfQuietRow rs (at list i)
@@ -42,14 +49,21 @@ pub record TooManyStates (rs : List Rule) : Type 0 where
 abbrev pub SameFuture : List Rule → List ℕ → List ℕ → Type 0
 SameFuture rs = EqualFuture (reference_automaton rs) (reference_automaton rs)
 
+-- n counts exactly the futures of quiet rows: n quiet rows, no two with the same future, and every quiet row has the future of one of them
+pub record CountsFutures (rs : List Rule) (n : ℕ) : Type 0 where
+  pub row : (i : ℕ) → i < n → List ℕ
+  pub quiet_row : (i : ℕ) (h : i < n) → QuietRow rs (row i h)
+  pub differ : (i j : ℕ) (h : i < n) (l : j < n) → i < j → SameFuture rs (row i h) (row j l) → ⊥
+  pub all : (r : List ℕ) → QuietRow rs r → (i : ℕ) × (h : i < n) × SameFuture rs r (row i h)
+
 -- one quiet row of each future, n of them in all: no two with the same future, and every quiet row has the future of one of them
 pub record OneOfEach (rs : List Rule) (rows : ℕ → List ℕ) (n : ℕ) : Type 0 where
   pub quiet_row : (i : ℕ) → i < n → QuietRow rs (rows i)
   pub differ : (i j : ℕ) → i < j → j < n → SameFuture rs (rows i) (rows j) → ⊥
   pub all : (r : List ℕ) → QuietRow rs r → (i : ℕ) × (i < n) × SameFuture rs r (rows i)
 
--- n counts exactly the futures of quiet rows: there are such rows
-pub record CountsFutures (rs : List Rule) (n : ℕ) : Type 0 where
+-- n counts exactly the futures of quiet rows: there are such rows, numbered from 0
+pub record CountsRows (rs : List Rule) (n : ℕ) : Type 0 where
   pub rows : ℕ → List ℕ
   pub each : OneOfEach rs rows n
 

@@ -1,4 +1,6 @@
 // Words, numbers and signed numbers at an offset of a text, in decimal.
+#![tactic(auto)]
+
 mod number;
 mod signed;
 mod word;

@@ -36,14 +36,14 @@ use Rattle.monitor_report.specs.MonitorReport.{monitor_printed}
 use Rattle.weights_report.specs.WeightsReport.{weights_printed}
 use Rattle.call_arrays.specs.BatchArrays.{batch_checked}
 use Rattle.claims.specs.Named.{EachAnswered}
-use Rattle.claims.specs.Counted.{QuietRow, SameFuture, OneOfEach, CountsFutures, NoneFewer}
+use Rattle.claims.specs.Counted.{QuietRow, SameFuture, OneOfEach, CountsRows, NoneFewer}
 use Rattle.claims.specs.ByRow.{alike_rows, row_chance, row_left, row_mean}
 use Rattle.claims.specs.Exact.{exact_sum, monitor_sum, monitor_mean, reached, monitor_reached}
 use Rattle.claims.proofs.Demand2 as two
 use Rattle.claims.proofs.Demand3 as three
-use Rattle.claims.proofs.FewestStates.{fewest_states}
-use Rattle.table_claims.specs.TableOutput.{TableProgram}
-use Rattle.table_claims.proofs.TableProgram.{table_program}
+use Rattle.claims.proofs.FewestStates.{none_fewer_states}
+use Rattle.table_claims.specs.TableOutput.{TableProgramByRow}
+use Rattle.table_claims.proofs.TableProgram.{table_program_by_row}
 use Rattle.monitor_claims.specs.MonitorOutput.{MonitorProgram}
 use Rattle.monitor_claims.proofs.MonitorProgram.{monitor_program}
 use Rattle.demands.specs.Order.{ListOrder, ZoneOrder, StepOrder, BatchOrder, TableOrder, BracketOrder, ShiftOrder}
@@ -117,14 +117,14 @@ pub record Demand2 : Type 1 where
       → RoundDown t f rows
   -- there are such rows, of N and of no other number; the steps take two rows as one exactly where the plain chart has
   -- the same future from both; no chart moved by zones alone that first signals on the same sequences has fewer states
-  pub standings : (t : TableCall) (f : TableFigures) → Tabled t f → CountsFutures (rules_of t) (N f)
-  pub standings_once : (t : TableCall) (f : TableFigures) → Tabled t f → (n : ℕ) → CountsFutures (rules_of t) n → n ≡ N f
+  pub standings : (t : TableCall) (f : TableFigures) → Tabled t f → CountsRows (rules_of t) (N f)
+  pub standings_once : (t : TableCall) (f : TableFigures) → Tabled t f → (n : ℕ) → CountsRows (rules_of t) n → n ≡ N f
   pub alike : (t : TableCall) (f : TableFigures) → Tabled t f → {r s : List ℕ} → QuietRow (rules_of t) r
       → QuietRow (rules_of t) s → (alike_rows (rules_of t) r s ≡ true) ↔ SameFuture (rules_of t) r s
   pub fewest : (t : TableCall) (f : TableFigures) → Tabled t f → NoneFewer (rules_of t) (N f)
   -- what the programs print: a refusal's line, or the lines of answers and of figures of which all this holds
   pub monitor_prints : (s : List ℕ) → MonitorProgram s (printed_bytes (monitor_printed s))
-  pub table_prints : (s : List ℕ) → TableProgram s (printed_bytes (table_printed s))
+  pub table_prints : (s : List ℕ) → TableProgramByRow s (printed_bytes (table_printed s))
 
 -- 3. The monitor and the table.
 pub record Demand3 : Type 0 where
@@ -186,12 +186,12 @@ demand_2 = record {
     left_last = two.survival_by_row t f e rows each;
     mean = two.mean_by_row t f e rows each;
   };
-  standings = two.states_counted;
-  standings_once = two.states_counted_once;
-  alike = λ t f e p q. two.alike_futures t f e p q;
-  fewest = fewest_states;
+  standings = two.rows_counted;
+  standings_once = two.rows_counted_once;
+  alike = λ t f e p q. two.alike_rows_futures t f e p q;
+  fewest = none_fewer_states;
   monitor_prints = monitor_program;
-  table_prints = table_program;
+  table_prints = table_program_by_row;
 }
 
 pub demand_3 : Demand3

@@ -1,4 +1,6 @@
 // The states of a chart merged where they do not differ: where every continuation first signals at the same point from both.
+#![tactic(auto)]
+
 ghost use Rattle.std.specs.Prelude.{◌*◌, ◌++◌, ◌≡◌, drop};
 ghost use Rattle.rules.specs.Bounds.{zone_count};
 ghost use Rattle.merge.specs.Merge.{merged_count, merged_moves, Mergeable};

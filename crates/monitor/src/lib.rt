@@ -1,4 +1,6 @@
 // The monitor: a chart that keeps only what its rules still need to remember.
+#![tactic(auto)]
+
 ghost use Rattle.std.specs.Prelude.{◌≡◌, true, ◌≤◌, ◌<◌};
 ghost use Rattle.rules.specs.Bounds.{zone_count, max_rules, max_number};
 ghost use Rattle.rules.specs.Check.{active_rules};

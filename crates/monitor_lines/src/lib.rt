@@ -1,4 +1,5 @@
 // The lines that the monitor program prints: of a point, and of a node's total. For the crates of this repository, which see to the room.
+#![tactic(auto)]
 
 mod lines;
 

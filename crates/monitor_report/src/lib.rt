@@ -1,4 +1,6 @@
 // The monitor program: its sixteen nodes, and what it prints for a text.
+#![tactic(auto)]
+
 mod monitors;
 mod nodes;
 mod points;

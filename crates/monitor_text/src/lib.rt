@@ -1,4 +1,6 @@
 // The monitor program's text: a chart line, rule lines, and point lines to the end.
+#![tactic(auto)]
+
 mod monitors;
 
 pub use monitors::{MonitorText, monitor_text};

@@ -1,4 +1,6 @@
 // The plot record of a rule list: five percentile items, the restricted mean's two bounds and the interquartile range, in exact doubles.
+#![tactic(auto)]
+
 ghost use Rattle.std.specs.Prelude.{◌≡◌, ◌+◌, ◌*◌, ◌<◌, ◌≤◌};
 ghost use Rattle.runlength.specs.Scale.{max_horizon};
 ghost use Rattle.table.specs.Table.{table_call, mean_of};

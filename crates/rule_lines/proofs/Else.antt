@@ -1,13 +1,9 @@
--- The `else` of a `let .. else` on a line where a rule may come next: it is neither absent nor a rule.
-use mathlib.Core.Path.{◌≡◌, refl}
-use mathlib.Core.List.{[], ◌∷◌}
-use types.Run.{OneOf, miss}
-use denote.Enum.Declared.{tag_of}
+-- A line that is not absent and is no rule is one that cannot be read.
+use Rattle.std.proofs.Common.{ℕ, ◌≡◌, refl}
 use Rattle.rule_lines.specs.declared.rule_lines.RuleLine.{RuleLine}
-use Rattle.rule_lines.specs.contracts.rule_lines.RuleLine.{the_type}
 
-pub else_unreadable : (r : RuleLine) → OneOf (1 ∷ 2 ∷ []) (tag_of the_type r) → OneOf (0 ∷ 2 ∷ []) (tag_of the_type r)
+pub else_unreadable : (r : RuleLine) → (r ≡ RuleLine.Absent → ⊥) → ((k m zones next : ℕ) → r ≡ RuleLine.Rule k m zones next → ⊥)
     → r ≡ RuleLine.Unreadable
-else_unreadable RuleLine.Absent t u = absurd (miss (1 ∷ 2 ∷ []) _ tt t)
-else_unreadable (RuleLine.Rule k m zones next) t u = absurd (miss (0 ∷ 2 ∷ []) _ tt u)
-else_unreadable RuleLine.Unreadable t u = refl
+else_unreadable RuleLine.Absent a b = absurd (a refl)
+else_unreadable (RuleLine.Rule k m zones next) a b = absurd (b k m zones next refl)
+else_unreadable RuleLine.Unreadable a b = refl

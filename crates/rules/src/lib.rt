@@ -1,4 +1,6 @@
 // Rule lists: the number of zones, the bounds, the two ready lists and the check; the weights of the zones; and the refusals of every operation.
+#![tactic(auto)]
+
 ghost use Rattle.std.specs.Prelude.{◌≡◌};
 ghost use Rattle.rules.specs.Check.{within as in_range, check_of, check_rule};
 ghost use Rattle.rules.specs.Ready.{rule_of, western_electric, duncan_list};

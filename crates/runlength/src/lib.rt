@@ -1,4 +1,5 @@
 // The theory of run lengths, in specs/; of code only its scales and the bounds of the horizon, each written here once.
+#![tactic(auto)]
 
 // Probability one for a single point: what the weights of the zones sum to.
 pub const WEIGHT_TOTAL: u64 = 1 << 30;

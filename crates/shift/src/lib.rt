@@ -1,4 +1,6 @@
 // Weights for a core whose mean is shifted: a normal reading with the standard deviation 1 sigma.
+#![tactic(auto)]
+
 mod areas;
 
 ghost use Rattle.std.specs.Prelude.{◌≡◌, ◌*◌, ◌≤◌};

@@ -1,4 +1,6 @@
 // Where the units of each row come from: for each state the states that lead to it, in groups of one share each. Made once, for all rows.
+#![tactic(auto)]
+
 mod groups;
 mod marks;
 mod stops;

@@ -1,4 +1,6 @@
 // A table in short: one run gives its number of states, its survival at the horizon, its mean with the error bound, and five percentiles.
+#![tactic(auto)]
+
 ghost use Rattle.std.specs.Prelude.{◌≡◌, ◌≤◌};
 ghost use Rattle.rules.specs.Bounds.{max_states};
 ghost use Rattle.runlength.specs.Scale.{min_horizon, max_horizon};

@@ -62,9 +62,9 @@ module _ (l : RuleList) (w : List ℕ) (h : ℕ) where
           )
 
           -- what the chain answers is the rest of the check
-          pub moves_made : (before m : List ℕ) (a : ChainAnswer) → ChainMade (active_rules l) before m a → ChainChecked l w h before m a
-          moves_made before m (ChainAnswer.Accepted n) c = (chain_passes c.0, c.1)
-          moves_made before m (ChainAnswer.Refused x) c = (too_many_states_lem c.0 ∙ ap Refused (sym c.1), c.2)
+          pub moves_made : (m : List ℕ) (a : ChainAnswer) → ChainMade (active_rules l) m a → ChainChecked l w h m a
+          moves_made m (ChainAnswer.Accepted n) c = (chain_passes c.0, c.1)
+          moves_made m (ChainAnswer.Refused x) c = too_many_states_lem c.0 ∙ ap Refused (sym c.1)
 
 -- a test that accepts has passed
 pub passed : (t : Bool) (x : Refusal) → unless t x ≡ Accepted → t ≡ true

@@ -10,11 +10,11 @@ use Rattle.table.specs.Table.{chain_check}
 use Rattle.table.specs.ChainChecked.{ChainChecked}
 use Rattle.chain.specs.HeldMoves.{HoldsMoves}
 
-module _ (l : RuleList) (w : List ℕ) (h : ℕ) (before m : List ℕ) {a : ChainAnswer} where
-  pub refused_chain : {x : Refusal} → a ≡ Refused x → ChainChecked l w h before m a → chain_check l w h ≡ checked.Refused x
-  refused_chain e c = let d = rw e at c in d.0
+module _ (l : RuleList) (w : List ℕ) (h : ℕ) (m : List ℕ) {a : ChainAnswer} where
+  pub refused_chain : {x : Refusal} → a ≡ Refused x → ChainChecked l w h m a → chain_check l w h ≡ checked.Refused x
+  refused_chain e c = rw e at c
 
-  module _ {n : ℕ} (e : a ≡ Accepted n) (c : ChainChecked l w h before m a) where
+  module _ {n : ℕ} (e : a ≡ Accepted n) (c : ChainChecked l w h m a) where
     pub passed_chain : chain_check l w h ≡ checked.Accepted
     passed_chain = let d = rw e at c in d.0
 

@@ -8,7 +8,7 @@ use Rattle.chain.specs.declared.ChainAnswer.TheVariants.{Accepted, Refused}
 use Rattle.table.specs.Table.{chain_check}
 use Rattle.chain.specs.HeldMoves.{HoldsMoves}
 
--- the refusal, with the list as it was lent; or the number of states, with their moves in the list
-abbrev pub ChainChecked : RuleList → List ℕ → ℕ → List ℕ → List ℕ → ChainAnswer → Type 0
-ChainChecked l w h before m (Accepted n) = (chain_check l w h ≡ checked.Accepted) × HoldsMoves (active_rules l) n m
-ChainChecked l w h before m (Refused x) = (chain_check l w h ≡ checked.Refused x) × (m ≡ before)
+-- the refusal; or the number of states, with their moves in the list
+abbrev pub ChainChecked : RuleList → List ℕ → ℕ → List ℕ → ChainAnswer → Type 0
+ChainChecked l w h m (Accepted n) = (chain_check l w h ≡ checked.Accepted) × HoldsMoves (active_rules l) n m
+ChainChecked l w h m (Refused x) = chain_check l w h ≡ checked.Refused x

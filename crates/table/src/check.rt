@@ -5,6 +5,7 @@ ghost use Rattle.rules.specs.Check.{check_of};
 ghost use Rattle.rules.specs.Refusal.{refusal};
 ghost use Rattle.rules.specs.declared.Checked.TheVariants.{Accepted};
 ghost use Rattle.runlength.specs.Sum.{at, sum};
+ghost use Rattle.chain.specs.KeepsMoves.{KeepsMoves};
 ghost use Rattle.table.specs.ChainChecked.{ChainChecked};
 
 use chain::ChainAnswer;
@@ -41,7 +42,8 @@ fn explored_chain(
 ) -> ChainAnswer
     requires list_value { check_of list ≡ Accepted }
     requires moves_len { length moves.old ≡ zone_count * max_states }
-    ensures { ChainChecked list weights horizon moves.old moves.new result }
+    ensures checked { ChainChecked list weights horizon moves.new result }
+    ensures kept { KeepsMoves moves.old moves.new result }
 {
     if weight_sum(&weights) != WEIGHT_TOTAL {
         return refused(Refusal::WEIGHTS);
@@ -64,7 +66,8 @@ pub fn check_chain(
     moves: &mut [u16],
 ) -> ChainAnswer
     requires { length moves.old ≡ zone_count * max_states }
-    ensures { ChainChecked list weights horizon moves.old moves.new result }
+    ensures checked { ChainChecked list weights horizon moves.new result }
+    ensures kept { KeepsMoves moves.old moves.new result }
 {
     let checked = list.check();
     match checked {

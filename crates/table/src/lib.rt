@@ -1,4 +1,6 @@
 // The run-length table of a rule list: how likely a chart is to signal at each point up to a horizon.
+#![tactic(auto)]
+
 ghost use Rattle.std.specs.Prelude.{◌≡◌};
 ghost use Rattle.table.specs.Table.{table_call, table_of};
 ghost use Rattle.table.specs.Table.{call_result};

@@ -13,8 +13,8 @@ use Rattle.chain.specs.TableChain.{explored_count, state_count, table_chain}
 use Rattle.claims.specs.Counted.{OneOfEach}
 use Rattle.claims.proofs.CountedLaws.{count_once}
 use Rattle.claims.specs.ByRow.{row_chance, row_left, row_mean}
-use Rattle.claims.proofs.ByRowLaws.{counts_futures, row_chance_lem, row_left_lem, row_mean_lem}
-use Rattle.table_claims.specs.TableOutput.{Figures, RowFigures, FiguresHold}
+use Rattle.claims.proofs.ByRowLaws.{counts_rows, row_chance_lem, row_left_lem, row_mean_lem}
+use Rattle.table_claims.specs.TableOutput.{Figures, RowFigures, FiguresHold, FiguresHoldByRow}
 
 -- the numbers are the chain's
 pub record ChainFigures (w : List ℕ) (rs : List Rule) (h : ℕ) (f : Figures) : Type 0 where
@@ -24,9 +24,9 @@ pub record ChainFigures (w : List ℕ) (rs : List Rule) (h : ℕ) (f : Figures) 
   pub survival_is : (n : ℕ) → 1 ≤ n → n ≤ h → f.survival n ≡ survival (table_chain rs w) n
   pub mean_is : f.whole * units_per_one + f.fraction ≡ restricted_mean (table_chain rs w) h
 
-module _ (w : List ℕ) (rs : List Rule) (bounds : AllInBounds rs) (few : explored_count rs ≤ max_states) (h : ℕ) (f : Figures) (t : FiguresHold w rs h f) where
+module _ (w : List ℕ) (rs : List Rule) (bounds : AllInBounds rs) (few : explored_count rs ≤ max_states) (h : ℕ) (f : Figures) (t : FiguresHoldByRow w rs h f) where
   count_is : f.count ≡ state_count rs
-  count_is = count_once t.counts.each (counts_futures rs bounds few).each
+  count_is = count_once t.counts.each (counts_rows rs bounds few).each
 
   abbrev taken : ℕ → List ℕ
   taken = t.counts.rows
@@ -61,3 +61,20 @@ module _ (w : List ℕ) (rs : List Rule) (bounds : AllInBounds rs) (few : explor
     survival_is = from_one (λ n. f.survival n ≡ survival (table_chain rs w) n) left_is;
     mean_is = by_row.mean ∙ ap (λ n. row_mean rs taken n w h) count_is ∙ sym (row_mean_lem rs bounds few taken each w h);
   }
+
+  -- so they hold by the chain too
+  pub figures_by_chain : FiguresHold w rs h f
+  figures_by_chain =
+      let c = chain_figures in
+      record {
+        states_are = c.states_are;
+        pmf_is = c.pmf_is;
+        cdf_is = c.cdf_is;
+        survival_is = c.survival_is;
+        mean_is = c.mean_is;
+        fraction_below = t.fraction_below;
+        error_is = t.error_is;
+        cdf_bounds = t.cdf_bounds;
+        mean_bounds = t.mean_bounds;
+        contains = t.contains;
+      }

@@ -4,9 +4,10 @@ use Rattle.rules.specs.declared.Rule.{Rule}
 use Rattle.write.specs.Printed.{printed_bytes}
 use Rattle.table_report.specs.TableReport.{table_printed}
 use Rattle.table_claims.specs.TableTexts.{TableTextIs}
-use Rattle.table_claims.specs.TableOutput.{Figures, figure_lines, FiguresHold}
+use Rattle.table_claims.specs.TableOutput.{Figures, figure_lines, FiguresHold, FiguresHoldByRow}
 use Rattle.table_claims.specs.TableOutput.{SameFigures}
 use Rattle.table_claims.proofs.TablePrintedOnceLaws.{table_once as table-once-proved, table_read_off as table-read-off-proved}
+use Rattle.table_claims.proofs.TablePrintedOnceLaws.{table_read_off_by_row as table-read-off-by-row-proved}
 
 -- The lines of a table determine how many rows there are and every number in them.
 pub table_once : (h h' : ℕ) (f g : Figures) → figure_lines h f ≡ figure_lines h' g → (h ≡ h') × SameFigures h f g
@@ -17,3 +18,8 @@ table_once = table-once-proved
 pub table_read_off : (s : List ℕ) (h : ℕ) (g : Figures) → printed_bytes (table_printed s) ≡ figure_lines h g
     → (w : List ℕ) × (rs : List Rule) × TableTextIs s w rs h × FiguresHold w rs h g
 table_read_off = table-read-off-proved
+
+-- The same, of the figures over rows of the plain chart.
+pub table_read_off_by_row : (s : List ℕ) (h : ℕ) (g : Figures) → printed_bytes (table_printed s) ≡ figure_lines h g
+    → (w : List ℕ) × (rs : List Rule) × TableTextIs s w rs h × FiguresHoldByRow w rs h g
+table_read_off_by_row = table-read-off-by-row-proved

@@ -15,9 +15,9 @@ use Rattle.table_report.specs.TableReport.{table_printed}
 use Rattle.table_claims.specs.TableTexts.{TableTextIs}
 use Rattle.text_claims.specs.NumberOnceLaws.{comma, not_number, behind_once}
 use Rattle.table_claims.specs.TableLinesLaws.{row_shape, standings_once, arl_once, row_once, percent_once}
-use Rattle.table_claims.specs.TableOutput.{rows, five_percents, Figures, figure_lines, RowFigures, FiguresHold}
-use Rattle.table_claims.specs.TableOutput.{TableProgram, refuses, prints}
-use Rattle.table_claims.proofs.TableProgram.{table_program}
+use Rattle.table_claims.specs.TableOutput.{rows, five_percents, Figures, figure_lines, RowFigures, FiguresHold, FiguresHoldByRow}
+use Rattle.table_claims.specs.TableOutput.{TableProgram, refuses, prints, TableProgramByRow, refuses_by_row, prints_by_row}
+use Rattle.table_claims.proofs.TableProgram.{table_program, table_program_by_row}
 use Rattle.table_claims.specs.TableOutput.{SameRow, SameFigures}
 
 -- ---- rows, from the first on
@@ -108,6 +108,23 @@ table_once h h' f g e =
 
 -- ---- numbers with the same lines hold alike
 
+same_hold : {w : List ℕ} {rs : List Rule} {h : ℕ} {f g : Figures} → SameFigures h f g → FiguresHold w rs h f → FiguresHold w rs h g
+same_hold {w} {rs} {h} {f} {g} e t =
+    let q = e.brackets in
+    let c = t.contains in
+    record {
+      states_are = sym e.count ∙ t.states_are;
+      pmf_is = λ n i j. sym (e.rows n i j).0 ∙ t.pmf_is n i j;
+      cdf_is = λ n i j. sym (e.rows n i j).1 ∙ t.cdf_is n i j;
+      survival_is = λ n i j. sym (e.rows n i j).2 ∙ t.survival_is n i j;
+      mean_is = rw (← e.whole, ← e.fraction) t.mean_is;
+      fraction_below = rw (← e.fraction) t.fraction_below;
+      error_is = rw (← e.error_bound, ← e.count) t.error_is;
+      cdf_bounds = λ n i j. rw (← (e.rows n i j).1, ← e.count) (t.cdf_bounds n i j);
+      mean_bounds = rw (← e.whole, ← e.fraction, ← e.error_bound) t.mean_bounds;
+      contains = (rw (← q.0) c.0, rw (← q.1) c.1, rw (← q.2) c.2, rw (← q.3) c.3, rw (← q.4) c.4);
+    }
+
 -- the bracket of the same chances, with the same N
 same_bracket : {h : ℕ} {f g : Figures} → SameFigures h f g → (p : ℕ) → f.bracket p ≡ g.bracket p
     → bracket_of (tab h (λ k. f.pmf (suc k))) f.count p ≡ BracketAnswer.Accepted (f.bracket p)
@@ -126,8 +143,8 @@ same_by_row e r = record {
   mean = rw (← e.whole, ← e.fraction, ← e.count) r.mean;
 }
 
-same_hold : {w : List ℕ} {rs : List Rule} {h : ℕ} {f g : Figures} → SameFigures h f g → FiguresHold w rs h f → FiguresHold w rs h g
-same_hold {w} {rs} {h} {f} {g} e t =
+same_hold_by_row : {w : List ℕ} {rs : List Rule} {h : ℕ} {f g : Figures} → SameFigures h f g → FiguresHoldByRow w rs h f → FiguresHoldByRow w rs h g
+same_hold_by_row {w} {rs} {h} {f} {g} e t =
     let q = e.brackets in
     let c = t.contains in
     let b = t.brackets_are in
@@ -161,6 +178,9 @@ same_text e t = rw (← e) t
 same_rows : {w : List ℕ} {rs : List Rule} {h h' : ℕ} {g : Figures} → h ≡ h' → FiguresHold w rs h g → FiguresHold w rs h' g
 same_rows e t = rw (← e) t
 
+same_rows_by_row : {w : List ℕ} {rs : List Rule} {h h' : ℕ} {g : Figures} → h ≡ h' → FiguresHoldByRow w rs h g → FiguresHoldByRow w rs h' g
+same_rows_by_row e t = rw (← e) t
+
 -- Whoever reads the table program's output as the lines of h rows of any numbers g reads numbers that hold, of the weights, the rules and the
 -- horizon h whose lines the text is.
 pub table_read_off : (s : List ℕ) (h : ℕ) (g : Figures) → printed_bytes (table_printed s) ≡ figure_lines h g
@@ -172,3 +192,14 @@ table_read_off s h g e = go (table_program s)
     go (prints w rs k f is m ok q t) =
         let o = table_once k h f g (sym q ∙ e) in
         (w, rs, same_text o.0 is, same_rows o.0 (same_hold o.1 t))
+
+-- The same, of the figures over rows of the plain chart.
+pub table_read_off_by_row : (s : List ℕ) (h : ℕ) (g : Figures) → printed_bytes (table_printed s) ≡ figure_lines h g
+    → (w : List ℕ) × (rs : List Rule) × TableTextIs s w rs h × FiguresHoldByRow w rs h g
+table_read_off_by_row s h g e = go (table_program_by_row s)
+  where
+    go : TableProgramByRow s (printed_bytes (table_printed s)) → (w : List ℕ) × (rs : List Rule) × TableTextIs s w rs h × FiguresHoldByRow w rs h g
+    go (refuses_by_row number place q r) = absurd (table_not_refused h g number place (sym e ∙ q))
+    go (prints_by_row w rs k f is m ok q t) =
+        let o = table_once k h f g (sym q ∙ e) in
+        (w, rs, same_text o.0 is, same_rows_by_row o.0 (same_hold_by_row o.1 t))

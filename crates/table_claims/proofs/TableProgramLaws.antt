@@ -16,7 +16,7 @@ use Rattle.runlength.specs.TabLaws.{length_tab}
 use Rattle.runlength.specs.Chain.{pmf, cdf, survival, error_bound_of}
 use Rattle.runlength.proofs.ConservationLaws.{mass_conservation}
 use Rattle.table.specs.Table.{TableCall, table_call, rules_of, chain_of, chain_check, table_of, pmf_of}
-use Rattle.table.proofs.ChainCheckLaws.{chain_accepted}
+use Rattle.table.proofs.ChainCheckLaws.{chain_accepted, accepted_chain}
 use Rattle.table.proofs.TableLaws.{room_check, refused_check}
 use Rattle.bracket.specs.Contains.{BracketContains}
 use Rattle.bracket.specs.declared.BracketAnswer.{BracketAnswer}
@@ -50,15 +50,16 @@ use Rattle.table_text.specs.TableGrammar.{table_grammar}
 use Rattle.table_text.specs.TableTextLaws.{clear_table}
 use Rattle.claims.specs.Exact.{reached}
 use Rattle.claims.proofs.ContainsLaws.{call_contains}
-use Rattle.claims.proofs.Demand2.{states_counted, chance_by_row, by_by_row, left_by_row, mean_by_row}
+use Rattle.claims.proofs.Demand2.{rows_counted, chance_by_row, by_by_row, left_by_row, mean_by_row}
 use Rattle.claims.proofs.Demand3.{cdf_bounds, mean_bounds}
-use Rattle.claims.proofs.FewestStates.{fewest_states}
+use Rattle.claims.proofs.FewestStates.{none_fewer_states}
 use Rattle.table_claims.specs.TableTexts.{TableTextIs}
 use Rattle.table_claims.proofs.TableBytesLaws.{weights_in, rules_in, horizon_in, table_is}
 use Rattle.table_claims.proofs.TableBytes.{table_read, table_text_once, table_stopped, table_too_long as text-too-long}
-use Rattle.table_claims.specs.TableOutput.{rows, Figures, figure_lines, FiguresHold, TableProgram, bad_table}
-use Rattle.table_claims.specs.TableOutput.{refuses as table-refuses, prints as table_prints, too_long_lem as table_too_long, bad_line_lem as table-bad-line}
+use Rattle.table_claims.specs.TableOutput.{rows, Figures, figure_lines, FiguresHold, FiguresHoldByRow, TableRefusal, TableProgram, TableProgramByRow, bad_table}
+use Rattle.table_claims.specs.TableOutput.{refuses, prints, refuses_by_row, prints_by_row, too_long_lem as table_too_long, bad_line_lem as table-bad-line}
 use Rattle.table_claims.proofs.RefusalLaws.{chain_number}
+use Rattle.table_claims.proofs.ChainFiguresLaws.{figures_by_chain}
 
 -- ---- the lines of an accepted table are those of the chain's figures
 
@@ -117,13 +118,13 @@ module _ (t : TableCall) (s : Summary) (ok : (summary_of t).answer ≡ SummaryAn
       × (units_per_one ≤ cdf (chain_of t) n + survival (chain_of t) n + n * s.figures.state_count)
   kept n low high = rw call.table.count_is (mass_conservation (chain_of t) call.table.proper n)
 
-  figures_hold : FiguresHold t.weights (rules_of t) t.horizon figures
+  figures_hold : FiguresHoldByRow t.weights (rules_of t) t.horizon figures
   unfolding figures
   figures_hold =
       let answered = accepted_figures t s ok in
       record {
-        counts = states_counted t s.figures answered;
-        none_fewer = fewest_states t s.figures answered;
+        counts = rows_counted t s.figures answered;
+        none_fewer = none_fewer_states t s.figures answered;
         by_row = λ rows each. record {
           chance = λ n i. sym (call.table.pmf_at n i) ∙ chance_by_row t s.figures answered rows each n i;
           by = λ n i j. sym (call.table.pmf_cdf n j) ∙ by_by_row t s.figures answered rows each n j;
@@ -161,8 +162,12 @@ horizon_kept h i = go (leb h max_rows) refl i
 
 -- ---- the program
 
-same_figures : {w : List ℕ} {rs rs' : List Rule} {h h' : ℕ} {f : Figures} → rs ≡ rs' → h ≡ h' → FiguresHold w rs h f → FiguresHold w rs' h' f
+same_figures : {w : List ℕ} {rs rs' : List Rule} {h h' : ℕ} {f : Figures} → rs ≡ rs' → h ≡ h' → FiguresHoldByRow w rs h f → FiguresHoldByRow w rs' h' f
 same_figures p q t = rw (← p, ← q) t
+
+same_figures_by_row : {w w' : List ℕ} {rs rs' : List Rule} {h h' : ℕ} {f : Figures} → w ≡ w' → rs ≡ rs' → h ≡ h' → FiguresHoldByRow w rs h f
+    → FiguresHoldByRow w' rs' h' f
+same_figures_by_row o p q t = rw (← o, ← p, ← q) t
 
 same_figures_for : {w w' : List ℕ} {rs rs' : List Rule} {h h' : ℕ} {f : Figures} → w ≡ w' → rs ≡ rs' → h ≡ h' → FiguresHold w rs h f → FiguresHold w' rs' h' f
 same_figures_for o p q t = rw (← o, ← p, ← q) t
@@ -178,46 +183,57 @@ module _ (s : List ℕ) (w : List ℕ) (rs : List Rule) (h : ℕ) (is : TableTex
   room = rw blank_length (horizon_small h)
 
   by_answer : (a : SummaryAnswer) → (summary_of t).answer ≡ a
-      → TableProgram s (printed_bytes (table_lines a (report_horizon h) (summary_of t).pmf_list (summary_of t).survival_list))
+      → TableProgramByRow s (printed_bytes (table_lines a (report_horizon h) (summary_of t).pmf_list (summary_of t).survival_list))
   unfolding printed_bytes summary_of
   by_answer (SummaryAnswer.Accepted x) e =
       let c = (accepted_summary t x e).table.chain in
       let k = horizon_kept h c.some_horizon in
-      table_prints w rs h (figures t x e) is k.1
+      prints_by_row w rs h (figures t x e) is k.1
       (same_check (rule_list_of rs) w k.0 (chain_accepted c))
       (lines_are t x e ∙ ap (λ n. figure_lines n (figures t x e)) k.0)
       (same_figures (active_rules_lem rs (rules_few rs c.rules)) k.0 (figures_hold t x e))
   by_answer (SummaryAnswer.Refused x) e =
       let c : chain_check (rule_list_of rs) w (report_horizon h) ≡ Refused x =
       sym (room_check t room room) ∙ refused_check t x (refused_table_lem t x e) in
-      table-refuses x.number x.place refl (bad_table w rs h x is c (chain_number (rule_list_of rs) w (report_horizon h) x c))
+      refuses_by_row x.number x.place refl (bad_table w rs h x is c (chain_number (rule_list_of rs) w (report_horizon h) x c))
 
 -- For every text: one refusal line, with the number and the place of a reason that holds of the text; or the text is the lines of weights w,
--- rules rs and a horizon h, and what is printed is the lines of figures that bound the exact ones of w, rs and h as demand 3 says.
-pub table_program : (s : List ℕ) → TableProgram s (printed_bytes (table_printed s))
+-- rules rs and a horizon h, and what is printed is the lines of figures that are those over rows of the plain chart.
+pub table_program_by_row : (s : List ℕ) → TableProgramByRow s (printed_bytes (table_printed s))
 unfolding table_printed printed_bytes table_text table_given refused_table read_table
-table_program s = go (read_text table_grammar s) (reading_is table_grammar clear_table s)
+table_program_by_row s = go (read_text table_grammar s) (reading_is table_grammar clear_table s)
   where
     printed : TableText → List ℕ
     printed t =
         printed_bytes (cond (eqb t.refusal.number 0) (summary_lines (summary_of (report_call t)) (report_horizon t.horizon)) (refused_by t.refusal))
 
-    go : (r : Reading (Contents table_grammar)) → ReadingIs table_grammar s r → TableProgram s (printed (table_given r))
-    go r (too_long_lem l) = table-refuses too_long.number 0 refl (table_too_long l)
-    go r (wrong {n} l st) = table-refuses (bad_line n).number n refl (table-bad-line n l st)
+    go : (r : Reading (Contents table_grammar)) → ReadingIs table_grammar s r → TableProgramByRow s (printed (table_given r))
+    go r (too_long_lem l) = refuses_by_row too_long.number 0 refl (table_too_long l)
+    go r (wrong {n} l st) = refuses_by_row (bad_line n).number n refl (table-bad-line n l st)
     go r (right {c} l t) =
         by_answer s (weights_in c) (rules_in c) (horizon_in c) (table_is c t l)
         (summary_of (table_call (rule_list_of (rules_in c)) (weights_in c) (report_horizon (horizon_in c)) blank blank)).answer refl
 
--- The other way round: a text that is the lines of weights, rules and a horizon which make a chart is not refused.
-pub table_printed_lem : {s : List ℕ} {w : List ℕ} {rs : List Rule} {h : ℕ} → TableTextIs s w rs h
-    → chain_check (rule_list_of rs) w (report_horizon h) ≡ Accepted
-    → (f : Figures) × (printed_bytes (table_printed s) ≡ figure_lines h f) × FiguresHold w rs h f
-unfolding refused_table read_table
-table_printed_lem {s} {w} {rs} {h} is ok = go (table_program s)
+-- For every text: one refusal line, with the number and the place of a reason that holds of the text; or the text is the lines of weights w,
+-- rules rs and a horizon h, and what is printed is the lines of figures that bound the exact ones of w, rs and h as demand 3 says.
+pub table_program : (s : List ℕ) → TableProgram s (printed_bytes (table_printed s))
+table_program s = go (table_program_by_row s)
   where
-    clash : {A : Type 1} {t : TableText} → table_text s ≡ t → (t.refusal.number ≡ 0 → ⊥) → A
-    clash e n = absurd (n (ap (λ (t : TableText). t.refusal.number) (sym e ∙ table_read is)))
+    go : TableProgramByRow s (printed_bytes (table_printed s)) → TableProgram s (printed_bytes (table_printed s))
+    go (refuses_by_row n p e r) = refuses n p e r
+    go (prints_by_row w rs h f is m ok e t) =
+        let c = accepted_chain (rule_list_of rs) w h ok in
+        let same = active_rules_lem rs (rules_few rs c.rules) in
+        prints w rs h f is m ok e (figures_by_chain w rs (rw same at c.bounds) (rw same at c.few) h f t)
+
+-- a text that is the lines of weights, rules and a horizon which make a chart has no reason to be refused
+no_refusal : {s : List ℕ} {w : List ℕ} {rs : List Rule} {h : ℕ} → TableTextIs s w rs h
+    → chain_check (rule_list_of rs) w (report_horizon h) ≡ Accepted → {n p : ℕ} → TableRefusal s n p → ⊥
+unfolding refused_table read_table
+no_refusal {s} {w} {rs} {h} is ok r = go r
+  where
+    clash : {t : TableText} → table_text s ≡ t → (t.refusal.number ≡ 0 → ⊥) → ⊥
+    clash e n = n (ap (λ (t : TableText). t.refusal.number) (sym e ∙ table_read is))
 
     checked : {w' : List ℕ} {rs' : List Rule} {h' : ℕ} {x : Refusal} → TableTextIs s w' rs' h'
         → chain_check (rule_list_of rs') w' (report_horizon h') ≡ Refused x → ⊥
@@ -227,10 +243,31 @@ table_printed_lem {s} {w} {rs} {h} is ok = go (table_program s)
         let z : ◌≡◌ {A = ℕ} 0 1 = cc in
         omega arith
 
+    go : {n p : ℕ} → TableRefusal s n p → ⊥
+    go (table_too_long l) = clash (text-too-long s l) (λ z. omega arith)
+    go (table-bad-line place l st) = clash (table_stopped l st) (λ z. omega arith)
+    go (bad_table w' rs' h' x is' c o) = checked is' c
+
+-- The other way round: a text that is the lines of weights, rules and a horizon which make a chart is not refused.
+pub table_printed_lem : {s : List ℕ} {w : List ℕ} {rs : List Rule} {h : ℕ} → TableTextIs s w rs h
+    → chain_check (rule_list_of rs) w (report_horizon h) ≡ Accepted
+    → (f : Figures) × (printed_bytes (table_printed s) ≡ figure_lines h f) × FiguresHold w rs h f
+table_printed_lem {s} {w} {rs} {h} is ok = go (table_program s)
+  where
     go : TableProgram s (printed_bytes (table_printed s)) → (f : Figures) × (printed_bytes (table_printed s) ≡ figure_lines h f) × FiguresHold w rs h f
-    go (table-refuses n p e (table_too_long l)) = clash (text-too-long s l) (λ z. omega arith)
-    go (table-refuses n p e (table-bad-line place l st)) = clash (table_stopped l st) (λ z. omega arith)
-    go (table-refuses n p e (bad_table w' rs' h' x is' c o)) = absurd (checked is' c)
-    go (table_prints w' rs' h' f is' m c e t) =
+    go (refuses n p e r) = absurd (no_refusal is ok r)
+    go (prints w' rs' h' f is' m c e t) =
         let o = table_text_once is' is in
         (f, e ∙ ap (λ n. figure_lines n f) o.2, same_figures_for o.0 o.1 o.2 t)
+
+pub table_printed_by_row : {s : List ℕ} {w : List ℕ} {rs : List Rule} {h : ℕ} → TableTextIs s w rs h
+    → chain_check (rule_list_of rs) w (report_horizon h) ≡ Accepted
+    → (f : Figures) × (printed_bytes (table_printed s) ≡ figure_lines h f) × FiguresHoldByRow w rs h f
+table_printed_by_row {s} {w} {rs} {h} is ok = go (table_program_by_row s)
+  where
+    go : TableProgramByRow s (printed_bytes (table_printed s))
+        → (f : Figures) × (printed_bytes (table_printed s) ≡ figure_lines h f) × FiguresHoldByRow w rs h f
+    go (refuses_by_row n p e r) = absurd (no_refusal is ok r)
+    go (prints_by_row w' rs' h' f is' m c e t) =
+        let o = table_text_once is' is in
+        (f, e ∙ ap (λ n. figure_lines n f) o.2, same_figures_by_row o.0 o.1 o.2 t)

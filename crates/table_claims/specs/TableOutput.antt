@@ -8,6 +8,8 @@ use Rattle.rules.specs.Refusal.{bad_rule_count, bad_rule_bounds, bad_zone_set, b
 use Rattle.rules.specs.Numbers.{OneOf}
 use Rattle.runlength.specs.Scale.{weight_total, units_per_one}
 use Rattle.runlength.specs.Sum.{sum, tab}
+use Rattle.runlength.specs.Chain.{pmf, cdf, survival, restricted_mean}
+use Rattle.chain.specs.TableChain.{state_count, table_chain}
 use Rattle.table.specs.Table.{chain_check}
 use Rattle.bracket.specs.declared.Bracket.{Bracket}
 use Rattle.bracket.specs.declared.BracketAnswer.{BracketAnswer}
@@ -21,7 +23,7 @@ use Rattle.write.specs.Refused.{refused_line}
 use Rattle.table_lines.specs.RowLine.{standings_line, header_line, row_line, arl_line}
 use Rattle.table_lines.specs.PercentLine.{percent_line}
 use Rattle.table_lines.specs.LargestHorizon.{max_rows, report_horizon}
-use Rattle.claims.specs.Counted.{OneOfEach, CountsFutures, NoneFewer}
+use Rattle.claims.specs.Counted.{OneOfEach, CountsRows, NoneFewer}
 use Rattle.claims.specs.ByRow.{row_chance, row_left, row_mean}
 use Rattle.claims.specs.Exact.{exact_sum, exact_mean, reached}
 use Rattle.table_claims.specs.TableTexts.{TableTextIs}
@@ -63,6 +65,26 @@ figure_lines h f =
     ++ arl_line f.whole f.fraction f.error_bound
     ++ five_percents (λ p. percent_line p (f.bracket p))
 
+-- The numbers are document 01's figures for these weights, rules and horizon to the last unit, and they bound the exact ones.
+pub record FiguresHold (w : List ℕ) (rs : List Rule) (h : ℕ) (f : Figures) : Type 0 where
+  -- demand 2: the figures of the round-down steps
+  pub states_are : f.count ≡ state_count rs
+  pub pmf_is : (n : ℕ) → 1 ≤ n → n ≤ h → f.pmf n ≡ pmf (table_chain rs w) n
+  pub cdf_is : (n : ℕ) → 1 ≤ n → n ≤ h → f.cdf n ≡ cdf (table_chain rs w) n
+  pub survival_is : (n : ℕ) → 1 ≤ n → n ≤ h → f.survival n ≡ survival (table_chain rs w) n
+  pub mean_is : f.whole * units_per_one + f.fraction ≡ restricted_mean (table_chain rs w) h
+  pub fraction_below : f.fraction < units_per_one
+  pub error_is : f.error_bound ≡ f.count * h * (h - 1) / 2
+  -- demand 3: the chance by n in the row n never exceeds the exact sum, and falls short of it by less than n × (N + 1) units
+  pub cdf_bounds : (n : ℕ) → 1 ≤ n → n ≤ h
+      → (f.cdf n * weight_total ^ n ≤ exact_sum rs w n * units_per_one)
+      × (exact_sum rs w n * units_per_one < (f.cdf n + n * (f.count + 1)) * weight_total ^ n)
+  -- the exact mean is at or above the arl line's whole and fraction, by at most its error bound
+  pub mean_bounds : ((f.whole * units_per_one + f.fraction) * weight_total ^ h ≤ exact_mean rs w h * units_per_one)
+      × (exact_mean rs w h * units_per_one ≤ (f.whole * units_per_one + f.fraction + f.error_bound) * weight_total ^ h)
+  -- each q line contains the true percentile
+  pub contains : EachPercent (λ p. BracketContains (reached rs w p) (f.bracket p))
+
 -- The numbers are those of the round-down steps over rows of the plain chart, one of each future.
 pub record RowFigures (w : List ℕ) (rs : List Rule) (h : ℕ) (f : Figures) (rows : ℕ → List ℕ) : Type 0 where
   pub chance : (n : ℕ) → n < h → f.pmf (suc n) ≡ row_chance rs rows f.count w n
@@ -70,10 +92,10 @@ pub record RowFigures (w : List ℕ) (rs : List Rule) (h : ℕ) (f : Figures) (r
   pub left : (n : ℕ) → n < h → f.survival (suc n) ≡ row_left rs rows f.count w (suc n)
   pub mean : f.whole * units_per_one + f.fraction ≡ row_mean rs rows f.count w h
 
--- The numbers are document 01's figures for these weights, rules and horizon to the last unit, and they bound the exact ones.
-pub record FiguresHold (w : List ℕ) (rs : List Rule) (h : ℕ) (f : Figures) : Type 1 where
+-- The same, with each figure said over rows of the plain chart, whichever rows are taken, and each bracket as that of the printed chances.
+pub record FiguresHoldByRow (w : List ℕ) (rs : List Rule) (h : ℕ) (f : Figures) : Type 1 where
   -- N is the number of different futures of the plain chart, and no chart that first signals on the same sequences has fewer states
-  pub counts : CountsFutures rs f.count
+  pub counts : CountsRows rs f.count
   pub none_fewer : NoneFewer rs f.count
   -- demand 2: the columns and the mean are those of the round-down steps, whichever rows are taken
   pub by_row : (rows : ℕ → List ℕ) → OneOfEach rs rows f.count → RowFigures w rs h f rows
@@ -103,13 +125,22 @@ pub data TableRefusal (s : List ℕ) : ℕ → ℕ → Type 0 where
       → OneOf chain_numbers x.number → TableRefusal s x.number x.place
 
 -- what the table program prints for the text s
-pub data TableProgram (s : List ℕ) (printed : List ℕ) : Type 1 where
+pub data TableProgram (s : List ℕ) (printed : List ℕ) : Type 0 where
   -- one refusal line, and the reason holds of the text
   refuses : (number place : ℕ) → printed ≡ refused_line number place → TableRefusal s number place → TableProgram s printed
   -- the lines of figures that hold of the weights, rules and horizon whose lines the text is
   prints : (w : List ℕ) (rs : List Rule) (h : ℕ) (f : Figures) → TableTextIs s w rs h
       → h ≤ max_rows → chain_check (rule_list_of rs) w h ≡ Accepted
       → printed ≡ figure_lines h f → FiguresHold w rs h f → TableProgram s printed
+
+-- the same, with the figures said over rows of the plain chart
+pub data TableProgramByRow (s : List ℕ) (printed : List ℕ) : Type 1 where
+  -- one refusal line, and the reason holds of the text
+  refuses_by_row : (number place : ℕ) → printed ≡ refused_line number place → TableRefusal s number place → TableProgramByRow s printed
+  -- the lines of figures that hold of the weights, rules and horizon whose lines the text is
+  prints_by_row : (w : List ℕ) (rs : List Rule) (h : ℕ) (f : Figures) → TableTextIs s w rs h
+      → h ≤ max_rows → chain_check (rule_list_of rs) w h ≡ Accepted
+      → printed ≡ figure_lines h f → FiguresHoldByRow w rs h f → TableProgramByRow s printed
 
 -- the row n has the same numbers
 abbrev pub SameRow : Figures → Figures → ℕ → Type 0

@@ -1,11 +1,13 @@
 // The table program's lines, written into a lent buffer at an offset.
 // For the crates of this repository, which see to the room: hence each `requires`.
+#![tactic(auto)]
+
 mod percents;
 mod rooms;
-mod rows;
+mod row_lines;
 mod tables;
 
 pub use percents::put_percent;
 pub use rooms::{MAX_ROWS, TABLE_ROOM};
-pub use rows::put_standings;
+pub use row_lines::put_standings;
 pub use tables::put_table;

@@ -7,7 +7,7 @@ ghost use Rattle.table_lines.specs.LargestHorizon.{max_rows};
 ghost use Rattle.table_lines.specs.TableLines.{table_bytes, table_room};
 
 use crate::percents::put_percents;
-use crate::rows::{put_arl, put_header, put_rows, put_standings};
+use crate::row_lines::{put_arl, put_header, put_rows, put_standings};
 use summary::Summary;
 
 // The table program's output, from the buffer's start: a table's summary, and its rows up to the horizon.

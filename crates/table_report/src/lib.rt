@@ -1,4 +1,6 @@
 // The table program: what it prints for a text.
+#![tactic(auto)]
+
 ghost use Rattle.std.specs.Prelude.{◌≡◌};
 ghost use Rattle.write.specs.Printed.{report, report_of, printed_bytes, OutputIs};
 ghost use Rattle.table_lines.specs.LargestHorizon.{report_horizon};

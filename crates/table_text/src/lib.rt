@@ -1,4 +1,6 @@
 // The table program's text: a weights line, rule lines, a horizon line, and nothing more.
+#![tactic(auto)]
+
 ghost use Rattle.std.specs.Prelude.{◌≡◌};
 ghost use Rattle.rules.specs.Refusal.{refusal};
 ghost use Rattle.table_text.specs.TableText.{table_text};

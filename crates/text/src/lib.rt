@@ -1,4 +1,6 @@
 // Lines of a text: a keyword, its fields and LF, read at an offset; and a run of such lines.
+#![tactic(auto)]
+
 mod lines;
 mod reader;
 mod runs;

@@ -1,4 +1,6 @@
 // The weights program: its line, and what it prints for a text.
+#![tactic(auto)]
+
 mod shifts;
 mod weight_line;
 mod weights;

@@ -1,4 +1,6 @@
 // The windows of the rules: what a chart remembers of its points, and what a point does to it.
+#![tactic(auto)]
+
 mod state;
 mod window;
 

@@ -1,5 +1,7 @@
 // Writing into a lent buffer at an offset: bytes, numbers in decimal, fields, the line of a refusal; and what a report answers.
 // For the crates of this repository, which see to the room: hence each `requires`.
+#![tactic(auto)]
+
 mod field;
 mod put;
 mod refused;

@@ -1,5 +1,4 @@
 -- `take_accepted` meets its contract. The invariant: what the readings left give is what the whole gives.
--- the point that the loop's body takes: the reading comes out of the slice as it stands there
 use mathlib.Core.Path.{◌≡◌, sym, ap, ◌∙◌}
 use mathlib.Core.List.{List}
 use Prim.Native.Nat.{ℕ, ◌≤◌, ◌-◌}
@@ -24,6 +23,7 @@ use Rattle.batch.specs.Batch.{readings_from, Left}
 use Rattle.batch.proofs.BatchLaws.{left_all, left_none, left_full, left_signal, left_quiet}
 use Rattle.batch.proofs.take_accepted.Goals as goal
 
+-- the point that the loop's body takes: the reading comes out of the slice as it stands there
 module _ {l : RuleList} {start : Monitor} {centre : ℤ} {sigma : ℕ} {xs : List ℤ} {m : Monitor} {i : ℕ}
     (left : Left l start centre sigma xs m i) {z : ℕ} {t : Taken} where
   point_read : SFits w32 (get_or xs i (pos 0)) → z ≡ zone_at (to_z w32 (of_z w32 (get_or xs i (pos 0))) -ℤ centre) sigma
@@ -37,19 +37,15 @@ at_centre l m sigma xs f e = sym e ∙ ap (λ (t : ℤ). readings_from l m t sig
 
 pub loop-i-init : goal.loop-i-init
 loop-i-init c =
-    let s = c.args in 
+    let s = c.args in
     let centre = to_z w32 (of_z w32 s.centre) in
     (omega arith, left_all s.list s.monitor centre s.sigma s.readings.now c.requires)
 
 pub returns-then-points-ge-MAX_NUMBER : goal.returns-then-points-ge-MAX_NUMBER
 returns-then-points-ge-MAX_NUMBER c =
-    let s = c.args in 
+    let s = c.args in
     at_centre s.list s.monitor s.sigma s.readings.now c.ranges.centre
     (left_full c.loop-i.invariant.1 (omega arith) (omega arith))
-
--- auto offset_bounds-readings-i
-
--- auto bounds-readings-i
 
 pub zone_at-requires : goal.zone_at-requires
 zone_at-requires c =
@@ -57,7 +53,7 @@ zone_at-requires c =
 
 pub take-requires : goal.take-requires
 take-requires c =
-    let s = c.args in 
+    let s = c.args in
     let x = get_or s.readings.now c.loop-i.i (pos 0) in
     let offset = to_z w32 (of_z w32 x) -ℤ to_z w32 (of_z w32 s.centre) in
     let p = accepted s.list c.requires.rules in record {
@@ -65,39 +61,25 @@ take-requires c =
       state_value = c.loop-i.invariant.1.readable.valid;
     }
 
--- auto enum_known-next
-
--- auto enum_known-mask
-
--- auto overflow_add-result
-
--- auto overflow_add-result-in-Signal
-
--- auto fresh-requires
-
 pub returns-in-Signal : goal.returns-in-Signal
 returns-in-Signal c =
-    let s = c.args in 
-    let v = c.loop-i.invariant.1 in 
+    let s = c.args in
+    let v = c.loop-i.invariant.1 in
     let point = point_read v (record { sfits = c.zone_at-arg-1.given }) c.zone_at.ensures
     (sym c.in-Signal.is ∙ c.take.ensures) in
     rw c.fresh.ensures
     (at_centre s.list s.monitor s.sigma s.readings.now c.ranges.centre
     (left_signal v (omega arith) (omega arith) point))
 
--- auto overflow_add-i
-
--- auto loop-i-smaller
-
 pub loop-i-preserved : goal.loop-i-preserved
 loop-i-preserved c =
-    let v = c.loop-i.invariant.1 in 
+    let v = c.loop-i.invariant.1 in
     let point = point_read v (record { sfits = c.zone_at-arg-1.given }) c.zone_at.ensures
     (sym c.in-Quiet.is ∙ c.take.ensures) in
     (omega arith, left_quiet v (omega arith) (omega arith) point)
 
 pub returns : goal.returns
 returns c =
-    let s = c.args in 
+    let s = c.args in
     at_centre s.list s.monitor s.sigma s.readings.now c.ranges.centre
     (left_none c.loop-i.invariant.1 (omega arith))

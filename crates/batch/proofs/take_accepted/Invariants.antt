@@ -1,5 +1,4 @@
 -- `take_accepted` meets its contract. The invariant: what the readings left give is what the whole gives.
--- the point that the loop's body takes: the reading comes out of the slice as it stands there
 use mathlib.Core.Path.{◌≡◌, sym, ap, ◌∙◌}
 use mathlib.Core.List.{List}
 use Prim.Native.Nat.{ℕ, ◌≤◌, ◌-◌}
@@ -25,7 +24,7 @@ use Rattle.batch.proofs.BatchLaws.{left_all, left_none, left_full, left_signal, 
 use Rattle.batch.proofs.take_accepted.Given as goal
 
 abbrev pub invariant-loop-i : goal.invariant-loop-i
-invariant-loop-i l = (l.i ≤ l.len) × Left l.list l.initial.at (to_z w32 l.centre) l.sigma l.readings l.at l.i
+invariant-loop-i l = (l.i ≤ l.len) × Left l.list l.initial.at l.centre l.sigma l.readings l.at l.i
 
 abbrev pub decreases-loop-i : goal.decreases-loop-i
 decreases-loop-i l = l.len - l.i

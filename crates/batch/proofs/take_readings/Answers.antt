@@ -13,28 +13,16 @@ use Rattle.batch.specs.Batch.{readings_from}
 use Rattle.batch.proofs.BatchLaws.{rules_refused, sigma_refused, state_refused, count_refused, batch_taken}
 use Rattle.batch.proofs.take_readings.Goals as goal
 
--- auto check-checked-requires
-
--- auto enum_known-checked
-
--- auto none_taken-requires
-
 pub returns-in-Refused : goal.returns-in-Refused
 returns-in-Refused c =
-    let s = c.args in 
+    let s = c.args in
     let refused = sym c.check-checked.ensures ∙ c.in-Refused.is in
     c.none_taken.ensures
     ∙ sym (rules_refused s.list s.monitor s.centre s.sigma s.readings.now _ refused)
 
--- auto enum_told-1
-
--- auto sigma_fits-requires
-
--- auto none_taken-requires-then-not-sigma_fits
-
 pub returns-then-not-sigma_fits : goal.returns-then-not-sigma_fits
 returns-then-not-sigma_fits c =
-    let s = c.args in 
+    let s = c.args in
     let ok = is_accepted (tag_of the_type) (λ x. refl) c.check-checked.ensures c.in_default.in_default-own.keys2 in
     let bad = sym c.sigma_fits.ensures ∙ not-true c.sigma_fits.result c.if-not-sigma_fits.true-raw in
     c.none_taken-then-not-sigma_fits.ensures
@@ -42,27 +30,23 @@ returns-then-not-sigma_fits c =
 
 pub valid-requires : goal.valid-requires
 valid-requires c =
-    let s = c.args in 
+    let s = c.args in
     let ok = is_accepted (tag_of the_type) (λ x. refl) c.check-checked.ensures c.in_default.in_default-own.keys2 in
     let p = accepted s.list ok in
     (p.1, p.2)
 
--- auto none_taken-requires-then-not-valid
-
 pub returns-then-not-valid : goal.returns-then-not-valid
 returns-then-not-valid c =
-    let s = c.args in 
+    let s = c.args in
     let ok = is_accepted (tag_of the_type) (λ x. refl) c.check-checked.ensures c.in_default.in_default-own.keys2 in
     let fits = sym c.sigma_fits.ensures ∙ not-false c.sigma_fits.result c.if-not-sigma_fits.false-raw in
     let bad = sym c.valid.ensures ∙ not-true c.valid.result c.if-not-valid.true-raw in
     c.none_taken-then-not-valid.ensures
     ∙ sym (state_refused s.list s.monitor s.centre s.sigma s.readings.now ok fits bad)
 
--- auto none_taken-requires-then-monitor-ge-MAX_NUMBER
-
 pub returns-then-monitor-ge-MAX_NUMBER : goal.returns-then-monitor-ge-MAX_NUMBER
 returns-then-monitor-ge-MAX_NUMBER c =
-    let s = c.args in 
+    let s = c.args in
     let readable : Readable s.list s.sigma s.monitor = record {
       rules = is_accepted (tag_of the_type) (λ x. refl) c.check-checked.ensures c.in_default.in_default-own.keys2;
       fits = sym c.sigma_fits.ensures ∙ not-false c.sigma_fits.result c.if-not-sigma_fits.false-raw;
@@ -81,7 +65,7 @@ take_accepted-requires c =
 
 pub returns : goal.returns
 returns c =
-    let s = c.args in 
+    let s = c.args in
     let readable : Readable s.list s.sigma s.monitor = record {
       rules = is_accepted (tag_of the_type) (λ x. refl) c.check-checked.ensures c.in_default.in_default-own.keys2;
       fits = sym c.sigma_fits.ensures ∙ not-false c.sigma_fits.result c.if-not-sigma_fits.false-raw;

@@ -7,17 +7,9 @@ use Rattle.bracket.proofs.BracketLaws.{by_neither, by_low, by_equal, by_unequal}
 use Rattle.bracket.proofs.Tags.{is_never}
 use Rattle.bracket.proofs.bracket_by.Goals as goal
 
--- auto enum_known-low
-
--- auto enum_told-1
-
 pub returns-in_default : goal.returns-in_default
 returns-in_default c =
     sym (by_neither (option_of c.args.high) c.args.len (is_never c.args.low c.in_default.in_default-own.keys2))
-
--- auto enum_known-high
-
--- auto enum_told-in_default-high
 
 pub returns-in_default-high : goal.returns-in_default-high
 returns-in_default-high c =

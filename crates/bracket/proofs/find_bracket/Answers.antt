@@ -7,14 +7,6 @@ use Rattle.bracket.specs.Bracket.{bracket_by, percentile_bracket}
 use borrow.Author.Rules.{rules}
 use Rattle.bracket.proofs.find_bracket.Goals as goal
 
--- auto lower-low-requires
-
--- auto upper-high-requires
-
--- auto overflow_cast-pmf
-
--- auto bracket_by-requires
-
 pub returns : goal.returns
 unfolding percentile_bracket
 returns c =

@@ -13,67 +13,51 @@ use Rattle.bracket.proofs.RefusedLaws.{under_range, over_range, refused_length, 
 use borrow.Author.Rules.{rules}
 use Rattle.bracket.proofs.percentile_bracket.Goals as goal
 
--- auto refused-requires
-
 pub returns-then-pmf-lt-MIN_LENGTH : goal.returns-then-pmf-lt-MIN_LENGTH
 returns-then-pmf-lt-MIN_LENGTH c =
-    let a = c.args in 
+    let a = c.args in
     let pmf = a.pmf.now in
     c.refused.ensures ∙ sym (refused_length pmf a.state_count a.percent (under_range min_horizon max_horizon (length pmf) (omega arith)))
 
--- auto refused-requires-then-pmf-gt-MAX_LENGTH
-
 pub returns-then-pmf-gt-MAX_LENGTH : goal.returns-then-pmf-gt-MAX_LENGTH
 returns-then-pmf-gt-MAX_LENGTH c =
-    let a = c.args in 
+    let a = c.args in
     let pmf = a.pmf.now in
     c.refused-then-pmf-gt-MAX_LENGTH.ensures ∙ sym (refused_length pmf a.state_count a.percent (over_range min_horizon max_horizon (length pmf) (omega arith) (omega arith)))
 
--- auto refused-requires-then-state_count-lt-MIN_STATES
-
 pub returns-then-state_count-lt-MIN_STATES : goal.returns-then-state_count-lt-MIN_STATES
 returns-then-state_count-lt-MIN_STATES c =
-    let a = c.args in 
+    let a = c.args in
     let pmf = a.pmf.now in
     c.refused-then-state_count-lt-MIN_STATES.ensures
     ∙ sym (refused_states pmf a.state_count a.percent (omega arith) (omega arith) (under_range min_states max_states a.state_count (omega arith)))
 
--- auto refused-requires-then-state_count-gt-MAX_STATES
-
 pub returns-then-state_count-gt-MAX_STATES : goal.returns-then-state_count-gt-MAX_STATES
 returns-then-state_count-gt-MAX_STATES c =
-    let a = c.args in 
+    let a = c.args in
     let pmf = a.pmf.now in
     c.refused-then-state_count-gt-MAX_STATES.ensures
     ∙ sym (refused_states pmf a.state_count a.percent (omega arith) (omega arith) (over_range min_states max_states a.state_count (omega arith) (omega arith)))
 
--- auto refused-requires-then-percent-lt-MIN_PERCENT
-
 pub returns-then-percent-lt-MIN_PERCENT : goal.returns-then-percent-lt-MIN_PERCENT
 returns-then-percent-lt-MIN_PERCENT c =
-    let a = c.args in 
+    let a = c.args in
     let pmf = a.pmf.now in
     c.refused-then-percent-lt-MIN_PERCENT.ensures
     ∙ sym (refused_percent pmf a.state_count a.percent (omega arith) (omega arith) (omega arith) (omega arith)
     (under_range min_percent max_percent a.percent (omega arith)))
 
--- auto refused-requires-then-percent-gt-MAX_PERCENT
-
 pub returns-then-percent-gt-MAX_PERCENT : goal.returns-then-percent-gt-MAX_PERCENT
 returns-then-percent-gt-MAX_PERCENT c =
-    let a = c.args in 
+    let a = c.args in
     let pmf = a.pmf.now in
     c.refused-then-percent-gt-MAX_PERCENT.ensures
     ∙ sym (refused_percent pmf a.state_count a.percent (omega arith) (omega arith) (omega arith) (omega arith)
     (over_range min_percent max_percent a.percent (omega arith) (omega arith)))
 
--- auto sum_fits-requires
-
--- auto refused-requires-then-not-sum_fits
-
 pub returns-then-not-sum_fits : goal.returns-then-not-sum_fits
 returns-then-not-sum_fits c =
-    let a = c.args in 
+    let a = c.args in
     let pmf = a.pmf.now in
     c.refused-then-not-sum_fits.ensures
     ∙ sym (refused_total pmf a.state_count a.percent (omega arith) (omega arith) (omega arith) (omega arith) (omega arith) (omega arith)
@@ -81,7 +65,7 @@ returns-then-not-sum_fits c =
 
 pub find_bracket-requires : goal.find_bracket-requires
 find_bracket-requires c =
-    let pmf = c.args.pmf.now in 
+    let pmf = c.args.pmf.now in
     record {
       not_empty = omega arith;
       short = omega arith;
@@ -94,7 +78,7 @@ find_bracket-requires c =
 
 pub returns : goal.returns
 returns c =
-    let a = c.args in 
+    let a = c.args in
     let pmf = a.pmf.now in
     ap Accepted c.find_bracket.ensures
     ∙ sym (accepted_bracket pmf a.state_count a.percent (record {

@@ -13,23 +13,9 @@ use Rattle.bracket.proofs.sum_fits.Goals as goal
 pub loop-i-init : goal.loop-i-init
 loop-i-init c = (omega arith, omega (arith, cdf_zero c.args.pmf.now))
 
--- auto offset_bounds-pmf-i
-
--- auto bounds-pmf-i
-
 pub returns-then-pmf-i : goal.returns-then-pmf-i
 returns-then-pmf-i c =
     sym (total_over c.args.pmf.now c.loop-i.rest c.loop-i.i c.loop-i.invariant.1 (omega arith) (omega arith))
-
--- auto offset_bounds-pmf-i-in-loop-i
-
--- auto bounds-pmf-i-in-loop-i
-
--- auto overflow_sub-rest
-
--- auto overflow_add-i
-
--- auto loop-i-smaller
 
 pub loop-i-preserved : goal.loop-i-preserved
 loop-i-preserved c =

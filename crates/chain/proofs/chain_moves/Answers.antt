@@ -19,7 +19,7 @@ explore-n-requires c =
 pub returns-then-n-gt-MAX_STATES : goal.returns-then-n-gt-MAX_STATES
 returns-then-n-gt-MAX_STATES c =
     let n = explored_count_lem (active_rules c.args.list) c.explore-n.ensures in
-    (omega (arith, c.if-n-gt-MAX_STATES.true), refl, refl)
+    record { made = (omega (arith, c.if-n-gt-MAX_STATES.true), refl); kept = refl }
 
 -- auto slice_bounds-merge-end
 
@@ -35,7 +35,11 @@ returns c =
     let x = c.explore-n.ensures in 
     let few = c.if-n-gt-MAX_STATES.false in 
     let n = explored_count_lem (active_rules a.list) x in
-    let made = c.merge-count.ensures in (
-      omega arith,
-      merged_held (active_rules a.list) x few a.moves.now _ made.0 made.1 (omega (arith, c.requires.moves_len)),
-    )
+    let merged = c.merge-count.ensures in
+    record {
+      made = (
+        omega arith,
+        merged_held (active_rules a.list) x few a.moves.now _ merged.value merged.merged_after (omega (arith, c.requires.moves_len)),
+      );
+      kept = tt;
+    }

@@ -4,38 +4,22 @@ use Rattle.merge.specs.NumberingLaws.{rounds_of, number_of, carry_can, numbered_
 use borrow.Author.Rules.{rules}
 use Rattle.merge.proofs.merge.Goals as goal
 
--- auto slice_bounds-find_leaders-end
-
--- auto slice_bounds-find_leaders-end-2
-
 pub find_leaders-requires : goal.find_leaders-requires
 find_leaders-requires c = rounds_of c.requires
 
--- auto slice_bounds-number-end
-
--- auto slice_bounds-number-end-2
-
--- auto slice_bounds-number-end-3
-
 pub number-count-requires : goal.number-count-requires
 number-count-requires c =
-    let p = c.requires in 
+    let p = c.requires in
     number_of p c.find_leaders.ensures.0
     c.find_leaders.ensures.1
 
--- auto slice_bounds-carry-end
-
--- auto slice_bounds-carry-end-2
-
 pub carry-requires : goal.carry-requires
 carry-requires c =
-    let p = c.requires in 
+    let p = c.requires in
     carry_can c.find_leaders.ensures.0
     c.number-count.ensures.numbered p.few p.moves
     (omega (arith, p.few, c.number-count.ensures.classes_len_unchanged.0))
     (omega (arith, p.few, c.number-count.ensures.classes_len_unchanged.1)) _ p.room
-
--- auto shape_of-merged
 
 pub returns : goal.returns
 returns c =

@@ -18,5 +18,5 @@ int_to_float-result-2 c = le→leb c.args.parts (2 ^ 53) (omega arith)
 pub returns : goal.returns
 unfolding of_bits
 returns c =
-    let a = c.args in 
+    let a = c.args in
     joined a.whole a.parts 36 (of_bits binary64 4769312005385355264) (refl, refl) (omega arith) (omega arith) (lit≤ tt)

@@ -3,7 +3,5 @@ use Rattle.plot.specs.MeanBoundsLaws.{down_parts}
 use borrow.Author.Rules.{rules}
 use Rattle.plot.proofs.lower_mean.Goals as goal
 
--- auto exact_mean-requires
-
 pub returns : goal.returns
 returns c = rw down_parts c.exact_mean.ensures

@@ -6,24 +6,6 @@ use Rattle.plot.specs.Item.{item_of}
 use borrow.Author.Rules.{rules}
 use Rattle.plot.proofs.plot_item.Goals as goal
 
--- auto enum_known-found
-
--- auto int_to_float-result
-
--- auto enum_known-found-in-Between-1
-
--- auto int_to_float-result-in-Between
-
--- auto int_to_float-result-in-Between-2
-
--- auto enum_known-found-in-Open-1
-
--- auto int_to_float-result-in-Open
-
--- auto enum_known-found-in-Beyond-1
-
--- auto int_to_float-result-in-Beyond
-
 pub returns-in-At : goal.returns-in-At
 unfolding item_of nearest_to of_int
 returns-in-At c = sym (ap item_of c.in-At.is)

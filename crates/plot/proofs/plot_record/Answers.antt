@@ -3,22 +3,6 @@ use Rattle.plot.specs.Plot.{record_of}
 use borrow.Author.Rules.{rules}
 use Rattle.plot.proofs.plot_record.Goals as goal
 
--- auto quartile_spread-range-requires
-
--- auto plot_item-requires
-
--- auto plot_item-requires-2
-
--- auto plot_item-requires-3
-
--- auto plot_item-requires-4
-
--- auto plot_item-requires-5
-
--- auto lower_mean-requires
-
--- auto upper_mean-requires
-
 pub returns : goal.returns
 unfolding record_of
 returns c =

@@ -3,15 +3,5 @@ use Rattle.plot.specs.MeanBoundsLaws.{up_parts}
 use borrow.Author.Rules.{rules}
 use Rattle.plot.proofs.upper_mean.Goals as goal
 
--- auto overflow_add-parts
-
--- auto overflow_sub-parts
-
--- auto overflow_add-parts-2
-
--- auto overflow_add-whole
-
--- auto exact_mean-requires
-
 pub returns : goal.returns
 returns c = rw up_parts c.exact_mean.ensures

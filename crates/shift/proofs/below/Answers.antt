@@ -9,10 +9,6 @@ use Rattle.shift.proofs.AreaLaws.{area_count, area_read, area_within}
 use Rattle.shift.proofs.BelowLaws.{below_low, below_high}
 use Rattle.shift.proofs.below.Goals as goal
 
--- auto overflow_sub-result
-
--- auto offset_bounds-table-i
-
 pub bounds-table-i : goal.bounds-table-i
 bounds-table-i c = omega (arith, ap length c.requires.table_value, area_count)
 
@@ -20,8 +16,6 @@ pub overflow_sub-result-then-i-lt-LAST : goal.overflow_sub-result-then-i-lt-LAST
 overflow_sub-result-then-i-lt-LAST c =
     let z = last_area - c.args.i in
     omega (arith, area_read c.args.table.now c.requires.table_value z, area_within z (omega arith))
-
--- auto offset_bounds-table-i-else-i-lt-LAST
 
 pub bounds-table-i-else-i-lt-LAST : goal.bounds-table-i-else-i-lt-LAST
 bounds-table-i-else-i-lt-LAST c = omega (arith, ap length c.requires.table_value, area_count, c.requires.i_bound)

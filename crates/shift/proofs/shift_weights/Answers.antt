@@ -1,5 +1,4 @@
 -- `shift::shift_weights` meets its contract. A signed number is read back from its bits, so each fact is first taken back to the shift.
--- ---- the two tests
 use native.Mathlib.Omega.{arith}
 use Prim.Native.Nat.{ℕ, ◌*◌, ◌≤◌, ◌<◌}
 use mathlib.Core.Path.{◌≡◌, sym, ap, ◌∙◌, subst}
@@ -17,6 +16,7 @@ use Rattle.shift.proofs.ShiftLaws.{in_bounds}
 use Rattle.shift.proofs.ShiftedWeights.{shift_accepted, shift_refused}
 use Rattle.shift.proofs.shift_weights.Goals as goal
 
+-- ---- the two tests
 no_test : {A : Type 0} → false ≡ true → A
 no_test e = let z : ◌≡◌ {A = ℕ} 0 1 = ap (λ b. cond b 1 0) e in absurd (omega arith)
 
@@ -66,41 +66,42 @@ module _ (s : ℤ) (f : SFits w32 s) where
     raised_back = to_z-of_z w32 (to_z w32 (of_z w32 s) +ℤ pos 150) raised_fits ∙ ap (λ (z : ℤ). z +ℤ pos 150) back ∙ raised
 
 -- behind both tests
-within : (c : tie.Else2) → nat_abs c.before.before.args.shift ≤ max_shift
-within c =
-    let s = c.before.before.args.shift in
-    let f = c.before.before.ranges.shift in
-    near s (test_back s f (λ (z : ℤ). lt_z z (negsuc 149)) false c.before.if1.false) (test_back s f (λ (z : ℤ). lt_z (pos 150) z) false c.if2.false)
+within : (s : ℤ) (f : SFits w32 s) → lt_z (to_z w32 (of_z w32 s)) (negsuc 149) ≡ false → lt_z (pos 150) (to_z w32 (of_z w32 s)) ≡ false
+    → nat_abs s ≤ max_shift
+within s f low high = near s (test_back s f (λ (z : ℤ). lt_z z (negsuc 149)) false low) (test_back s f (λ (z : ℤ). lt_z (pos 150) z) false high)
 
 pub returns-then-shift-lt-MIN_SHIFT : goal.returns-then-shift-lt-MIN_SHIFT
 returns-then-shift-lt-MIN_SHIFT c =
-    let s = c.args.shift in 
+    let s = c.args.shift in
     sym (shift_refused s (far_below s (test_back s c.ranges.shift (λ (z : ℤ). lt_z z (negsuc 149)) true c.if-shift-lt-MIN_SHIFT.true)))
 
 pub returns-then-shift-gt-MAX_SHIFT : goal.returns-then-shift-gt-MAX_SHIFT
 returns-then-shift-gt-MAX_SHIFT c =
-    let s = c.args.shift in 
+    let s = c.args.shift in
     sym (shift_refused s (far_above s (test_back s c.ranges.shift (λ (z : ℤ). lt_z (pos 150) z) true c.if-shift-gt-MAX_SHIFT.true)))
 
 pub overflow_add-shift : goal.overflow_add-shift
-overflow_add-shift c = raised_fits c.args.shift c.ranges.shift (within c)
+overflow_add-shift c =
+    let s = c.args.shift in
+    let f = c.ranges.shift in
+    raised_fits s f (within s f c.if-shift-lt-MIN_SHIFT.false c.if-shift-gt-MAX_SHIFT.false)
 
 pub overflow_cast-shift : goal.overflow_cast-shift
 overflow_cast-shift c =
-    let s = c.args.shift in 
-    let f = c.ranges.shift in 
-    subst (λ (z : ℤ). T (non_neg z) × Fits w64 (nat_abs z)) (sym (raised_back s f (within c))) (tt, record { fits = omega (arith, t_most s f (within c)) })
+    let s = c.args.shift in
+    let f = c.ranges.shift in
+    subst (λ (z : ℤ). T (non_neg z) × Fits w64 (nat_abs z)) (sym (raised_back s f (within s f c.if-shift-lt-MIN_SHIFT.false c.if-shift-gt-MAX_SHIFT.false))) (tt, record { fits = omega (arith, t_most s f (within s f c.if-shift-lt-MIN_SHIFT.false c.if-shift-gt-MAX_SHIFT.false)) })
 
 pub weights_at-requires : goal.weights_at-requires
 weights_at-requires c =
-    let s = c.args.shift in 
-    let f = c.ranges.shift in 
-    subst (λ (z : ℤ). nat_abs z ≤ 2 * max_shift) (sym (raised_back s f (within c))) (t_most s f (within c))
+    let s = c.args.shift in
+    let f = c.ranges.shift in
+    subst (λ (z : ℤ). nat_abs z ≤ 2 * max_shift) (sym (raised_back s f (within s f c.if-shift-lt-MIN_SHIFT.false c.if-shift-gt-MAX_SHIFT.false))) (t_most s f (within s f c.if-shift-lt-MIN_SHIFT.false c.if-shift-gt-MAX_SHIFT.false))
 
 pub returns : goal.returns
 returns c =
-    let s = c.args.shift in 
-    let f = c.ranges.shift in 
-    let w = c.weights_at.result in 
-    let h = subst (λ (z : ℤ). w ≡ weights_of (sub_ℕ (nat_abs z) max_shift)) (raised_back s f (within d)) c.weights_at.ensures in
-    ap Accepted (h ∙ sym (ap weights_of (t_is s f (within d)))) ∙ sym (shift_accepted s (within d))
+    let s = c.args.shift in
+    let f = c.ranges.shift in
+    let w = c.weights_at.result in
+    let h = subst (λ (z : ℤ). w ≡ weights_of (sub_ℕ (nat_abs z) max_shift)) (raised_back s f (within s f c.if-shift-lt-MIN_SHIFT.false c.if-shift-gt-MAX_SHIFT.false)) c.weights_at.ensures in
+    ap Accepted (h ∙ sym (ap weights_of (t_is s f (within s f c.if-shift-lt-MIN_SHIFT.false c.if-shift-gt-MAX_SHIFT.false)))) ∙ sym (shift_accepted s (within s f c.if-shift-lt-MIN_SHIFT.false c.if-shift-gt-MAX_SHIFT.false))

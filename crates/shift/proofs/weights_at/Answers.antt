@@ -6,24 +6,12 @@ use Rattle.shift.specs.Area.{areas}
 use Rattle.shift.proofs.ShiftLaws.{Rising, limits_rise, weights_computed}
 use Rattle.shift.proofs.weights_at.Goals as goal
 
--- behind the seven areas: they rise
-rise : (c : tie.After-below7) → Rising c.before.before.before.before.before.before.before.before.before.before.before.before.before.before.args.t
-rise c = limits_rise _ (omega arith)
-
--- auto slice_bounds-below-end
-
--- auto overflow_sub-t
-
 pub below-a1-requires : goal.below-a1-requires
 unfolding areas
 below-a1-requires c = record {
       table_value = refl;
       i_bound = search rules;
     }
-
--- auto slice_bounds-below-end-2
-
--- auto overflow_sub-t-2
 
 pub below-b1-requires : goal.below-b1-requires
 unfolding areas
@@ -32,20 +20,12 @@ below-b1-requires c = record {
       i_bound = search rules;
     }
 
--- auto slice_bounds-below-end-3
-
--- auto overflow_sub-t-3
-
 pub below-c1-requires : goal.below-c1-requires
 unfolding areas
 below-c1-requires c = record {
       table_value = refl;
       i_bound = search rules;
     }
-
--- auto slice_bounds-below-end-4
-
--- auto overflow_sub-t-4
 
 pub below-centre-requires : goal.below-centre-requires
 unfolding areas
@@ -54,10 +34,6 @@ below-centre-requires c = record {
       i_bound = search rules;
     }
 
--- auto slice_bounds-below-end-5
-
--- auto overflow_sub-t-5
-
 pub below-c2-requires : goal.below-c2-requires
 unfolding areas
 below-c2-requires c = record {
@@ -65,20 +41,12 @@ below-c2-requires c = record {
       i_bound = search rules;
     }
 
--- auto slice_bounds-below-end-6
-
--- auto overflow_sub-t-6
-
 pub below-b2-requires : goal.below-b2-requires
 unfolding areas
 below-b2-requires c = record {
       table_value = refl;
       i_bound = search rules;
     }
-
--- auto slice_bounds-below-end-7
-
--- auto overflow_sub-t-7
 
 pub below-a2-requires : goal.below-a2-requires
 unfolding areas
@@ -88,32 +56,32 @@ below-a2-requires c = record {
     }
 
 pub overflow_sub-result : goal.overflow_sub-result
-overflow_sub-result c = let r = rise c in omega arith
+overflow_sub-result c = let r = limits_rise c.args.t (omega arith) in omega arith
 
 pub overflow_sub-result-2 : goal.overflow_sub-result-2
-overflow_sub-result-2 c = let r = rise c in omega arith
+overflow_sub-result-2 c = let r = limits_rise c.args.t (omega arith) in omega arith
 
 pub overflow_sub-result-3 : goal.overflow_sub-result-3
-overflow_sub-result-3 c = let r = rise c in omega arith
+overflow_sub-result-3 c = let r = limits_rise c.args.t (omega arith) in omega arith
 
 pub overflow_sub-result-4 : goal.overflow_sub-result-4
-overflow_sub-result-4 c = let r = rise c in omega arith
+overflow_sub-result-4 c = let r = limits_rise c.args.t (omega arith) in omega arith
 
 pub overflow_sub-result-5 : goal.overflow_sub-result-5
-overflow_sub-result-5 c = let r = rise c in omega arith
+overflow_sub-result-5 c = let r = limits_rise c.args.t (omega arith) in omega arith
 
 pub overflow_sub-result-6 : goal.overflow_sub-result-6
-overflow_sub-result-6 c = let r = rise c in omega arith
+overflow_sub-result-6 c = let r = limits_rise c.args.t (omega arith) in omega arith
 
 pub overflow_sub-result-7 : goal.overflow_sub-result-7
-overflow_sub-result-7 c = let r = rise c in omega arith
+overflow_sub-result-7 c = let r = limits_rise c.args.t (omega arith) in omega arith
 
 pub overflow_sub-result-8 : goal.overflow_sub-result-8
-overflow_sub-result-8 c = let r = rise c in omega arith
+overflow_sub-result-8 c = let r = limits_rise c.args.t (omega arith) in omega arith
 
 pub returns : goal.returns
 returns c =
-    let t = c.args.t in 
+    let t = c.args.t in
     rw (
       c.below-a1.ensures,
       c.below-b1.ensures,

@@ -3,12 +3,8 @@ use Rattle.sources.specs.ListSourcesLaws.{join_of, list_of, stops_of, listed_of}
 use borrow.Author.Rules.{rules}
 use Rattle.sources.proofs.list_sources.Goals as goal
 
--- auto slice_bounds-join-end
-
 pub join-requires : goal.join-requires
 join-requires c = search join_of
-
--- auto slice_bounds-list_groups-end
 
 pub list_groups-requires : goal.list_groups-requires
 list_groups-requires c = search list_of
@@ -16,16 +12,6 @@ list_groups-requires c = search list_of
 pub list_stops-requires : goal.list_stops-requires
 list_stops-requires c =
     stops_of c.requires c.list_groups.ensures
-
--- auto shape_of-sources
-
--- auto shape_of-firsts
-
--- auto shape_of-shares
-
--- auto shape_of-groups
-
--- auto shape_of-stops
 
 pub returns : goal.returns
 returns c = search listed_of

@@ -4,8 +4,6 @@ use Rattle.summary.specs.Summary.{summary_by}
 use borrow.Author.Rules.{rules}
 use Rattle.summary.proofs.summarize.Goals as goal
 
--- auto mean_error_bound-requires
-
 pub find_bracket-requires : goal.find_bracket-requires
 find_bracket-requires c = c.requires.brackets 5 (omega arith) (omega arith)
 

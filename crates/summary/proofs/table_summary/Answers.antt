@@ -6,33 +6,19 @@ use Rattle.summary.proofs.SummaryLaws.{refused_summary, left_room, left_summariz
 use borrow.Author.Rules.{rules}
 use Rattle.summary.proofs.table_summary.Goals as goal
 
--- auto run_length_table-answer-requires
-
--- auto enum_known-answer
-
--- auto enum_known-answer-in-Accepted-1
-
 pub slice_bounds-summarize-end : goal.slice_bounds-summarize-end
 slice_bounds-summarize-end c = let a = c.args in left_room (table_call a.list a.weights a.horizon a.pmf.now a.survival.now) c.run_length_table-answer.ensures c.in-Accepted.is
 
 pub slice_bounds-summarize-end-in-Accepted : goal.slice_bounds-summarize-end-in-Accepted
 slice_bounds-summarize-end-in-Accepted c =
-    let a = c.args in 
+    let a = c.args in
     sym (length-take-le a.horizon _ (left_room (table_call a.list a.weights a.horizon a.pmf.now a.survival.now) c.run_length_table-answer.ensures c.in-Accepted.is))
 
 pub summarize-requires : goal.summarize-requires
 summarize-requires c = let a = c.args in left_summarizable (table_call a.list a.weights a.horizon a.pmf.now a.survival.now) c.run_length_table-answer.ensures c.in-Accepted.is
 
--- auto shape_of-pmf-in-Refused
-
--- auto shape_of-survival-in-Refused
-
 pub returns-in-Refused : goal.returns-in-Refused
 returns-in-Refused c = let a = c.args in refused_summary (table_call a.list a.weights a.horizon a.pmf.now a.survival.now) c.run_length_table-answer.ensures c.in-Refused.is
-
--- auto shape_of-pmf-in-Accepted
-
--- auto shape_of-survival-in-Accepted
 
 pub returns-in-Accepted : goal.returns-in-Accepted
 returns-in-Accepted c = let a = c.args in accepted_run (table_call a.list a.weights a.horizon a.pmf.now a.survival.now) c.run_length_table-answer.ensures c.in-Accepted.is c.summarize.ensures

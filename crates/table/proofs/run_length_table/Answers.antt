@@ -17,17 +17,17 @@ use Rattle.table.proofs.run_length_table.Goals as goal
 -- auto enum_known-checked
 
 pub returns-in-Refused : goal.returns-in-Refused
-returns-in-Refused c = let a = c.args in chain_refused (table_call a.list a.t2 a.horizon a.pmf.now a.survival.now) (refused_chain a.list a.t2 a.horizon _ _ c.in-Refused.is c.check_chain-checked.ensures)
+returns-in-Refused c = let a = c.args in chain_refused (table_call a.list a.weights a.horizon a.pmf.now a.survival.now) (refused_chain a.list a.weights a.horizon _ c.in-Refused.is c.check_chain-checked.ensures.checked)
 
 -- auto enum_known-checked-in-Accepted-1
 
 pub returns-then-pmf-h : goal.returns-then-pmf-h
-returns-then-pmf-h c = let a = c.args in short_pmf (table_call a.list a.t2 a.horizon a.pmf.now a.survival.now) (passed_chain a.list a.t2 a.horizon _ _ c.in-Accepted.is c.check_chain-checked.ensures) (omega arith)
+returns-then-pmf-h c = let a = c.args in short_pmf (table_call a.list a.weights a.horizon a.pmf.now a.survival.now) (passed_chain a.list a.weights a.horizon _ c.in-Accepted.is c.check_chain-checked.ensures.checked) (omega arith)
 
 pub returns-then-survival-h : goal.returns-then-survival-h
 returns-then-survival-h c =
-    let a = c.args in 
-    short_survival (table_call a.list a.t2 a.horizon a.pmf.now a.survival.now) (passed_chain a.list a.t2 a.horizon _ _ c.in-Accepted.is c.check_chain-checked.ensures) (omega arith) (omega arith)
+    let a = c.args in
+    short_survival (table_call a.list a.weights a.horizon a.pmf.now a.survival.now) (passed_chain a.list a.weights a.horizon _ c.in-Accepted.is c.check_chain-checked.ensures.checked) (omega arith) (omega arith)
 
 -- auto slice_bounds-run_rows-end
 
@@ -35,10 +35,10 @@ returns-then-survival-h c =
 
 pub run_rows-totals-requires : goal.run_rows-totals-requires
 run_rows-totals-requires c =
-    let a = c.args in 
-    let e = c.check_chain-checked.ensures in 
-    let chart = accepted_chain a.list a.t2 a.horizon (passed_chain a.list a.t2 a.horizon _ _ c.in-Accepted.is e) in
-    let m = held_moves a.list a.t2 a.horizon _ _ c.in-Accepted.is e in
+    let a = c.args in
+    let e = c.check_chain-checked.ensures.checked in
+    let chart = accepted_chain a.list a.weights a.horizon (passed_chain a.list a.weights a.horizon _ c.in-Accepted.is e) in
+    let m = held_moves a.list a.weights a.horizon _ c.in-Accepted.is e in
     record {
       some = omega (arith, m.count, count_some (active_rules a.list));
       moves = record { many = m.room; most = m.few };
@@ -49,7 +49,7 @@ run_rows-totals-requires c =
     }
 
 pub overflow_cast-result : goal.overflow_cast-result
-overflow_cast-result c = let a = c.args in omega (arith, (held_moves a.list a.t2 a.horizon _ _ c.in-Accepted.is c.check_chain-checked.ensures).few)
+overflow_cast-result c = let a = c.args in omega (arith, (held_moves a.list a.weights a.horizon _ c.in-Accepted.is c.check_chain-checked.ensures.checked).few)
 
 -- auto shape_of-pmf
 
@@ -57,8 +57,8 @@ overflow_cast-result c = let a = c.args in omega (arith, (held_moves a.list a.t2
 
 pub returns : goal.returns
 returns c =
-    let a = c.args in 
-    let e = c.check_chain-checked.ensures in 
-    let t = (table_call a.list a.t2 a.horizon a.pmf.now a.survival.now) in
-    rows_filled t (held_moves a.list a.t2 a.horizon _ _ c.in-Accepted.is e) c.run_rows-totals.ensures
-    ∙ sym (all_passed t (passed_chain a.list a.t2 a.horizon _ _ c.in-Accepted.is e) (omega arith) (omega arith))
+    let a = c.args in
+    let e = c.check_chain-checked.ensures.checked in
+    let t = (table_call a.list a.weights a.horizon a.pmf.now a.survival.now) in
+    rows_filled t (held_moves a.list a.weights a.horizon _ c.in-Accepted.is e) c.run_rows-totals.ensures
+    ∙ sym (all_passed t (passed_chain a.list a.weights a.horizon _ c.in-Accepted.is e) (omega arith) (omega arith))

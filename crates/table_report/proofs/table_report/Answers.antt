@@ -6,49 +6,34 @@ use Rattle.table_report.specs.TableReportLaws.{horizon_small, rows_listed, rows_
 use borrow.Author.Rules.{rules}
 use Rattle.table_report.proofs.table_report.Goals as goal
 
--- auto table_text-read-requires
-
 pub returns-then-refusal-ne0 : goal.returns-then-refusal-ne0
 returns-then-refusal-ne0 c = let a = c.args in text_refused a.text.now a.out.now c.table_text-read.result c.table_text-read.ensures c.if-refusal-ne0.true
-
--- auto report_horizon-horizon-requires
-
--- auto slice_bounds-table_summary-end
-
--- auto slice_bounds-table_summary-end-2
-
--- auto table_summary-answer-requires
-
--- auto enum_known-answer
-
--- auto enum_known-answer-in-Accepted-1
-
--- auto overflow_cast-horizon
-
--- auto slice_bounds-put_table-end-in-Accepted
-
--- auto slice_bounds-put_table-end-in-Accepted-2
 
 pub put_table-n-requires : goal.put_table-n-requires
 unfolding blank
 put_table-n-requires c =
-    let t = c.table_text-read.result in 
+    let t = c.table_text-read.result in
     let call = table_call t.list t.weights c.report_horizon-horizon.result blank blank in
-    let run = c.table_summary-answer.ensures in 
-    let accepted = c.in-Accepted.is in 
-    (search rules, (omega (arith, c.report_horizon-horizon.ensures, horizon_small t.horizon), (rows_listed call run accepted, rows_total call run accepted)))
+    let run = c.table_summary-answer.ensures in
+    let accepted = c.in-Accepted.is in
+    record {
+      table_room_in_bounds = search rules;
+      horizon_le_max_rows = omega (arith, c.report_horizon-horizon.ensures, horizon_small t.horizon);
+      horizon_in_bounds = rows_listed call run accepted;
+      horizon_bound = rows_total call run accepted;
+    }
 
 pub returns-in-Refused : goal.returns-in-Refused
 unfolding blank
 returns-in-Refused c =
-    let a = c.args in 
+    let a = c.args in
     table_refused a.text.now a.out.now c.table_text-read.result c.table_text-read.ensures c.if-refusal-ne0.false
     c.report_horizon-horizon.result c.report_horizon-horizon.ensures c.table_summary-answer.result _ _ c.table_summary-answer.ensures _ c.in-Refused.is
 
 pub returns-in-Accepted : goal.returns-in-Accepted
 unfolding blank
 returns-in-Accepted c =
-    let a = c.args in 
+    let a = c.args in
     table_written a.text.now a.out.now c.table_text-read.result c.table_text-read.ensures c.if-refusal-ne0.false
     c.report_horizon-horizon.result c.report_horizon-horizon.ensures c.table_summary-answer.result _ _ c.table_summary-answer.ensures _ c.in-Accepted.is
     _ _ c.put_table-n.ensures.wrote

@@ -3,8 +3,6 @@ use borrow.Author.Rules.{rules}
 use Rattle.table_text.specs.ReadTable.{refused_table}
 use Rattle.table_text.proofs.refused_table.Goals as goal
 
--- auto no_rules-requires
-
 pub returns : goal.returns
 unfolding refused_table
 returns c = rw c.no_rules.ensures

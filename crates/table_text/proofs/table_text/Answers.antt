@@ -6,38 +6,16 @@ use Rattle.rule_lines.specs.RuleTurnLaws.{read_few}
 use Rattle.table_text.specs.TableTextLaws.{too_long_lem, other_first, bad_rule, other_last, goes_on, whole}
 use Rattle.table_text.proofs.table_text.Goals as goal
 
--- auto refused_table-requires
-
 pub returns-then-text-gt-MAX_TEXT : goal.returns-then-text-gt-MAX_TEXT
 returns-then-text-gt-MAX_TEXT c = c.refused_table.ensures ∙ too_long_lem _ (omega arith)
-
--- auto line_at-first-requires
-
--- auto enum_known-behind
-
--- auto enum_told-1
-
--- auto refused_table-requires-in_default
 
 pub returns-in_default : goal.returns-in_default
 returns-in_default c =
     c.refused_table-in_default.ensures ∙ other_first _ (omega arith) c.line_at-first.ensures c.in_default.is
 
--- auto read_rules-read-requires
-
--- auto refused_table-requires-then-refusal-ne0
-
 pub returns-then-refusal-ne0 : goal.returns-then-refusal-ne0
 returns-then-refusal-ne0 c =
     c.refused_table-then-refusal-ne0.ensures ∙ bad_rule _ (omega arith) c.line_at-first.ensures c.in-At.is c.read_rules-read.ensures c.if-refusal-ne0.true
-
--- auto line_at-last-requires
-
--- auto enum_known-end
-
--- auto enum_told-in_default-end
-
--- auto refused_table-requires-in_default-end
 
 pub returns-in_default-end : goal.returns-in_default-end
 returns-in_default-end c =
@@ -48,14 +26,10 @@ pub overflow_add-line : goal.overflow_add-line
 overflow_add-line c =
     omega (arith, read_few _ _ _ c.read_rules-read.ensures)
 
--- auto refused_table-requires-then-next-text
-
 pub returns-then-next-text : goal.returns-then-next-text
 returns-then-next-text c =
     c.refused_table-then-next-text.ensures
     ∙ goes_on _ (omega (arith, c.if-text-gt-MAX_TEXT.false)) c.line_at-first.ensures c.in-At.is c.read_rules-read.ensures c.line_at-last.ensures c.in-At-end.is (omega (arith, c.if-next-text.true))
-
--- auto bounds-horizon-0
 
 pub returns : goal.returns
 returns c =

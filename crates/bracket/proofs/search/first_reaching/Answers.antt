@@ -11,10 +11,6 @@ use Rattle.bracket.proofs.search.first_reaching.Goals as goal
 pub loop-n-init : goal.loop-n-init
 loop-n-init c = searched_start c.args.pmf.now c.args.slack c.args.goal
 
--- auto offset_bounds-pmf-n
-
--- auto bounds-pmf-n
-
 pub overflow_add-sum : goal.overflow_add-sum
 overflow_add-sum c =
     omega (arith, next_room c.args.pmf.now c.args.slack c.args.goal c.loop-n.invariant (omega arith) c.requires.0 c.requires.1)
@@ -23,15 +19,9 @@ pub overflow_add-sum-in-loop-n : goal.overflow_add-sum-in-loop-n
 overflow_add-sum-in-loop-n c =
     omega (arith, next_room c.args.pmf.now c.args.slack c.args.goal c.loop-n.invariant (omega arith) c.requires.0 c.requires.1)
 
--- auto overflow_add-n
-
--- auto overflow_cast-result
-
 pub returns-then-sum-goal : goal.returns-then-sum-goal
 returns-then-sum-goal c =
     sym (searched_here c.args.pmf.now c.args.slack c.args.goal c.loop-n.invariant (omega arith) (omega arith))
-
--- auto loop-n-smaller
 
 pub loop-n-preserved : goal.loop-n-preserved
 loop-n-preserved c =

@@ -6,12 +6,6 @@ use borrow.Author.Rules.{rules}
 use Rattle.bracket.proofs.CrossingLaws.{search_low}
 use Rattle.bracket.proofs.search.lower.Goals as goal
 
--- auto overflow_add-slack
-
--- auto hundredth-goal-requires
-
--- auto first_reaching-requires
-
 pub returns : goal.returns
 returns c =
     c.first_reaching.ensures ∙ search_low c.args.pmf.now _ c.hundredth-goal.result c.args.state_count c.args.percent (length c.args.pmf.now) (omega arith) (omega (arith, c.hundredth-goal.ensures))

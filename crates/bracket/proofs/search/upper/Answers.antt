@@ -6,12 +6,6 @@ use borrow.Author.Rules.{rules}
 use Rattle.bracket.proofs.CrossingLaws.{search_high}
 use Rattle.bracket.proofs.search.upper.Goals as goal
 
--- auto overflow_sub-hundredth
-
--- auto hundredth-goal-requires
-
--- auto first_reaching-requires
-
 pub returns : goal.returns
 returns c =
     c.first_reaching.ensures ∙ search_high c.args.pmf.now _ c.hundredth-goal.result c.args.percent (length c.args.pmf.now) (omega arith) (omega (arith, c.hundredth-goal.ensures))

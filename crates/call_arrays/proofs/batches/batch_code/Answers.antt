@@ -12,8 +12,6 @@ pub returns-then-refusal-eq0 : goal.returns-then-refusal-eq0
 returns-then-refusal-eq0 c =
     unrefused_code c.args.found (omega (arith, c.if-found-gt0.false)) c.if-refusal-eq0.true
 
--- auto code-requires
-
 pub returns : goal.returns
 returns c =
     refused_code c.args.found (omega (arith, c.if-found-gt0.false)) c.if-refusal-eq0.false c.code.ensures

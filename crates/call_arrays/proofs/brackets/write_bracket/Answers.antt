@@ -7,22 +7,6 @@ use Rattle.call_arrays.specs.BracketArrays.{bracket_as}
 use borrow.Author.Rules.{rules}
 use Rattle.call_arrays.proofs.brackets.write_bracket.Goals as goal
 
--- auto enum_known-found
-
--- auto write_answer-requires
-
--- auto enum_known-found-in-Between-1
-
--- auto write_answer-requires-in-Between
-
--- auto enum_known-found-in-Open-1
-
--- auto write_answer-requires-in-Open
-
--- auto enum_known-found-in-Beyond-1
-
--- auto write_answer-requires-in-Beyond
-
 pub returns-in-At : goal.returns-in-At
 returns-in-At c = c.write_answer.ensures ∙ sym (ap (λ (p : Bracket). bracket_as p c.args.answer.now) c.in-At.is)
 

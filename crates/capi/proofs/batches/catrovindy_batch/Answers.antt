@@ -6,28 +6,16 @@ use Rattle.capi.specs.BatchCallLaws.{batch_refused, batch_taken, same_batch, sam
 use borrow.Author.Rules.{rules}
 use Rattle.capi.proofs.batches.catrovindy_batch.Goals as goal
 
--- auto bounds-state-0
-
--- auto bounds-points-0
-
--- auto list_of-requires
-
--- auto take_readings-found-requires
-
--- auto batch_code-refused-requires
-
 pub returns-then-refused-ne0 : goal.returns-then-refused-ne0
 returns-then-refused-ne0 c =
-    let a = c.args in 
+    let a = c.args in
     let is = same_batch c.list_of.ensures (to_z-of_z c.ranges.centre) (monitor_of a.state.now a.points.now) a.sigma a.readings.now c.take_readings-found.result c.take_readings-found.ensures in
     same_call is (batch_refused c.take_readings-found.result a.state.now a.points.now a.answer.now _ c.batch_code-refused.ensures c.if-refused-ne0.true)
 
--- auto write_batch-requires
-
 pub returns : goal.returns
 returns c =
-    let a = c.args in 
+    let a = c.args in
     let is = same_batch c.list_of.ensures (to_z-of_z c.ranges.centre) (monitor_of a.state.now a.points.now) a.sigma a.readings.now c.take_readings-found.result c.take_readings-found.ensures in
     same_call is (
     batch_taken c.take_readings-found.result a.state.now a.points.now a.answer.now _ c.batch_code-refused.ensures c.if-refused-ne0.false _ _ _
-    c.write_batch.ensures.state_after c.write_batch.ensures.points_after.0 c.write_batch.ensures.points_after.1)
+    c.write_batch.ensures.state_after c.write_batch.ensures.points_after c.write_batch.ensures.answer_after)

@@ -8,16 +8,6 @@ use Rattle.rules.specs.contracts.Checked.{the_type}
 use Rattle.codes.specs.Codes.{check_code}
 use Rattle.capi.proofs.lists.catrovindy_check.Goals as goal
 
--- auto list_of-requires
-
--- auto check-checked-requires
-
--- auto enum_told-1
-
--- auto enum_known-checked
-
--- auto code-requires
-
 pub returns-in-Accepted : goal.returns-in-Accepted
 returns-in-Accepted c =
     let ok = is_accepted (tag_of the_type) (λ x. refl) c.check-checked.ensures c.in-Accepted.in-Accepted-own.keys1 in

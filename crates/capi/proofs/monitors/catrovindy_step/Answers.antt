@@ -6,40 +6,20 @@ use Rattle.capi.specs.MonitorCallLaws.{step_call}
 use borrow.Author.Rules.{rules}
 use Rattle.capi.proofs.monitors.catrovindy_step.Goals as goal
 
--- auto bounds-state-0
-
--- auto bounds-points-0
-
--- auto list_of-requires
-
--- auto step-requires
-
--- auto enum_known-r
-
--- auto code-requires
-
--- auto enum_known-count
-
--- auto write_step-requires
-
--- auto enum_known-count-in-Signal-1
-
--- auto write_step-requires-in-Signal
-
 pub returns-in-Refused : goal.returns-in-Refused
 returns-in-Refused c =
-    let a = c.args in 
+    let a = c.args in
     step_call (slot_list a.slots.now a.count) c.list_of.result (monitor_of a.state.now a.points.now) a.zone a.state.now a.points.now a.answer.now
     _ _ _ _ c.step.result _ c.list_of.ensures c.step.ensures c.in-Refused.is c.code.ensures refl refl refl
 
 pub returns-in-Quiet : goal.returns-in-Quiet
 returns-in-Quiet c =
-    let a = c.args in 
+    let a = c.args in
     step_call (slot_list a.slots.now a.count) c.list_of.result (monitor_of a.state.now a.points.now) a.zone a.state.now a.points.now a.answer.now
-    _ _ _ _ c.step.result _ c.list_of.ensures c.step.ensures c.in-Quiet.is refl c.write_step.ensures.state_after c.write_step.ensures.points_after.0 c.write_step.ensures.points_after.1
+    _ _ _ _ c.step.result _ c.list_of.ensures c.step.ensures c.in-Quiet.is refl c.write_step.ensures.state_after c.write_step.ensures.points_after c.write_step.ensures.answer_after
 
 pub returns-in-Signal : goal.returns-in-Signal
 returns-in-Signal c =
-    let a = c.args in 
+    let a = c.args in
     step_call (slot_list a.slots.now a.count) c.list_of.result (monitor_of a.state.now a.points.now) a.zone a.state.now a.points.now a.answer.now
-    _ _ _ _ c.step.result _ c.list_of.ensures c.step.ensures c.in-Signal.is refl c.write_step-in-Signal.ensures.state_after c.write_step-in-Signal.ensures.points_after.0 c.write_step-in-Signal.ensures.points_after.1
+    _ _ _ _ c.step.result _ c.list_of.ensures c.step.ensures c.in-Signal.is refl c.write_step-in-Signal.ensures.state_after c.write_step-in-Signal.ensures.points_after c.write_step-in-Signal.ensures.answer_after

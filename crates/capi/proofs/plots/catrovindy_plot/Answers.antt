@@ -8,38 +8,16 @@ use Rattle.capi.specs.PlotCallLaws.{plot_call}
 use borrow.Author.Rules.{rules}
 use Rattle.capi.proofs.plots.catrovindy_plot.Goals as goal
 
--- auto list_of-requires
-
--- auto box_plot-answer-requires
-
--- auto enum_known-answer
-
--- auto code-requires
-
--- auto enum_known-answer-in-Accepted-1
-
--- auto write_kinds-requires
-
--- auto write_values-requires
-
--- auto shape_of-pmf-in-Refused
-
--- auto shape_of-survival-in-Refused
-
 pub returns-in-Refused : goal.returns-in-Refused
 returns-in-Refused c =
-    let a = c.args in 
+    let a = c.args in
     let called = c.box_plot-answer.ensures ∙ ap (λ (l : RuleList). box_plot_of (table_call l a.weights.now a.horizon a.pmf.now a.survival.now)) c.list_of.ensures in
     plot_call (table_call (slot_list a.slots.now a.count) a.weights.now a.horizon a.pmf.now a.survival.now) a.kinds.now a.values.now _ _ _ _ _
     c.box_plot-answer.result _ called c.in-Refused.is c.code.ensures refl refl
 
--- auto shape_of-pmf-in-Accepted
-
--- auto shape_of-survival-in-Accepted
-
 pub returns-in-Accepted : goal.returns-in-Accepted
 returns-in-Accepted c =
-    let a = c.args in 
+    let a = c.args in
     let called = c.box_plot-answer.ensures ∙ ap (λ (l : RuleList). box_plot_of (table_call l a.weights.now a.horizon a.pmf.now a.survival.now)) c.list_of.ensures in
     plot_call (table_call (slot_list a.slots.now a.count) a.weights.now a.horizon a.pmf.now a.survival.now) a.kinds.now a.values.now _ _ _ _ _
     c.box_plot-answer.result _ called c.in-Accepted.is refl c.write_kinds.ensures c.write_values.ensures

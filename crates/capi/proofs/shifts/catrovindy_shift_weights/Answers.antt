@@ -5,22 +5,12 @@ use borrow.Author.Rules.{rules}
 use Rattle.capi.specs.ShiftCallLaws.{shift_call}
 use Rattle.capi.proofs.shifts.catrovindy_shift_weights.Goals as goal
 
--- auto shift_weights-answer-requires
-
--- auto enum_known-answer
-
--- auto code-requires
-
--- auto enum_known-answer-in-Accepted-1
-
--- auto weight_array-requires
-
 pub returns-in-Refused : goal.returns-in-Refused
 returns-in-Refused c =
-    let a = c.args in 
+    let a = c.args in
     shift_call (to_z-of_z c.ranges.shift) a.weights.now _ _ c.shift_weights-answer.result _ c.shift_weights-answer.ensures c.in-Refused.is c.code.ensures refl
 
 pub returns-in-Accepted : goal.returns-in-Accepted
 returns-in-Accepted c =
-    let a = c.args in 
+    let a = c.args in
     shift_call (to_z-of_z c.ranges.shift) a.weights.now _ _ c.shift_weights-answer.result _ c.shift_weights-answer.ensures c.in-Accepted.is refl c.weight_array.ensures

@@ -7,42 +7,14 @@ use Rattle.capi.specs.TableCallLaws.{call_refused, call_accepted}
 use borrow.Author.Rules.{rules}
 use Rattle.capi.proofs.tables.catrovindy_table.Goals as goal
 
--- auto list_of-requires
-
--- auto run_length_table-answer-requires
-
--- auto enum_known-answer
-
--- auto code-requires
-
--- auto enum_known-answer-in-Accepted-1
-
--- auto overflow_cast-figures
-
--- auto bounds-figures-0
-
--- auto bounds-figures-1
-
--- auto bounds-figures-2
-
--- auto bounds-figures-3
-
--- auto shape_of-pmf-in-Refused
-
--- auto shape_of-survival-in-Refused
-
 pub returns-in-Refused : goal.returns-in-Refused
 returns-in-Refused c =
-    let a = c.args in 
+    let a = c.args in
     let called = c.run_length_table-answer.ensures ∙ ap (λ (l : RuleList). table_of (table_call l a.weights.now a.horizon a.pmf.now a.survival.now)) c.list_of.ensures in
     call_refused (table_call (slot_list a.slots.now a.count) a.weights.now a.horizon a.pmf.now a.survival.now) a.figures.now called _ c.in-Refused.is c.code.ensures
 
--- auto shape_of-pmf-in-Accepted
-
--- auto shape_of-survival-in-Accepted
-
 pub returns-in-Accepted : goal.returns-in-Accepted
 returns-in-Accepted c =
-    let a = c.args in 
+    let a = c.args in
     let called = c.run_length_table-answer.ensures ∙ ap (λ (l : RuleList). table_of (table_call l a.weights.now a.horizon a.pmf.now a.survival.now)) c.list_of.ensures in
     call_accepted (table_call (slot_list a.slots.now a.count) a.weights.now a.horizon a.pmf.now a.survival.now) a.figures.now called c.in-Accepted.is

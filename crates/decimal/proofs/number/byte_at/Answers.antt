@@ -4,8 +4,6 @@ use mathlib.Core.Path.{sym}
 use lib.ListN.{get_or-eq_default}
 use Rattle.decimal.proofs.number.byte_at.Goals as goal
 
--- auto bounds-text-i
-
 pub returns-then-i-text : goal.returns-then-i-text
 returns-then-i-text c = record { is = search rules; within = λ h. search rules }
 

@@ -12,23 +12,11 @@ use Rattle.decimal.proofs.number.digits.Goals as goal
 pub loop-i-init : goal.loop-i-init
 loop-i-init c = (c.requires, refl)
 
--- auto bounds-text-i
-
--- auto overflow_cast-result
-
 pub returns-then-b-lt48 : goal.returns-then-b-lt48
 returns-then-b-lt48 c = sym (stop_low _ _ _ c.loop-i-test.true c.if-b-lt48.true) ∙ c.loop-i.invariant.1
 
--- auto overflow_cast-result-then-b-gt57
-
 pub returns-then-b-gt57 : goal.returns-then-b-gt57
 returns-then-b-gt57 c = sym (stop_high _ _ _ c.loop-i-test.true c.if-b-gt57.true) ∙ c.loop-i.invariant.1
-
--- auto overflow_mul-v
-
--- auto wide-requires
-
--- auto overflow_sub-v
 
 pub overflow_add-v : goal.overflow_add-v
 overflow_add-v c = omega (arith, c.shared_slice_known-in-loop-i-1.given c.loop-i.i)
@@ -38,16 +26,10 @@ returns-then-v-gt-LARGEST c =
     let e = ap (more c.loop-i.v) c.wide.ensures in
     sym (over _ _ _ c.loop-i-test.true c.if-b-lt48.false c.if-b-gt57.false (rw e at c.if-v-gt-LARGEST.true)) ∙ c.loop-i.invariant.1
 
--- auto overflow_add-i
-
--- auto loop-i-smaller
-
 pub loop-i-preserved : goal.loop-i-preserved
 loop-i-preserved c =
     let e = ap (more c.loop-i.v) c.wide.ensures in
     (omega arith, rw e (sym (on _ _ _ c.loop-i-test.true c.if-b-lt48.false c.if-b-gt57.false (rw e at c.if-v-gt-LARGEST.false)) ∙ c.loop-i.invariant.1))
-
--- auto overflow_cast-result-2
 
 pub returns : goal.returns
 returns c = sym (stop_end _ _ _ c.loop-i-test.false) ∙ c.loop-i.invariant.1

@@ -5,17 +5,9 @@ use Rattle.decimal.specs.Number.{field_at}
 use Rattle.decimal.specs.OnLaws.{found, absent}
 use Rattle.decimal.proofs.number.field.Goals as goal
 
--- auto past-requires
-
--- auto enum_known-p
-
--- auto enum_told-1
-
 pub returns-in_default : goal.returns-in_default
 unfolding field_at
 returns-in_default c = sym (absent _ _ (sym c.past.ensures ∙ c.in_default.is))
-
--- auto number_at-requires
 
 pub returns : goal.returns
 unfolding field_at

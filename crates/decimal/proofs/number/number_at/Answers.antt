@@ -5,8 +5,6 @@ use mathlib.Core.Path.{sym, ◌∙◌}
 use Rattle.decimal.proofs.Digit.{number_low, number_high, number_zero, number_some}
 use Rattle.decimal.proofs.number.number_at.Goals as goal
 
--- auto byte_at-b-requires
-
 pub returns-then-b-lt48 : goal.returns-then-b-lt48
 returns-then-b-lt48 c = sym (number_low _ _ _ c.byte_at-b.ensures.is c.if-b-lt48.true)
 
@@ -21,12 +19,6 @@ returns-then-b-eq48 c = sym (number_zero _ _ _ c.byte_at-b.ensures.is c.if-b-eq4
 
 pub overflow_add-at : goal.overflow_add-at
 overflow_add-at c = let h = c.byte_at-b.ensures.within (omega arith) in omega arith
-
--- auto wide-requires
-
--- auto overflow_sub-wide
-
--- auto digits-requires
 
 pub returns : goal.returns
 returns c =

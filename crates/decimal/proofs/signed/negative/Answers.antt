@@ -5,10 +5,6 @@ use Rattle.decimal.proofs.Minus.{less_one, neg_fits}
 use borrow.Author.Rules.{rules}
 use Rattle.decimal.proofs.signed.negative.Goals as goal
 
--- auto overflow_sub-n
-
--- auto positive-m-requires
-
 pub overflow_sub-result : goal.overflow_sub-result
 overflow_sub-result c = rw (less_one _ _ c.positive-m.ensures (omega arith)) (neg_fits _ (omega arith))
 

@@ -6,7 +6,5 @@ use native.Mathlib.Omega.{arith}
 use borrow.Author.Rules.{rules}
 use Rattle.decimal.proofs.signed.positive.Goals as goal
 
--- auto overflow_cast-result
-
 pub returns : goal.returns
 returns c = let h : c.args.n < 2147483648 = omega arith in to_z_pos w32 h

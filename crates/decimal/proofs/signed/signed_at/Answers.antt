@@ -6,16 +6,8 @@ use borrow.Author.Rules.{rules}
 use Rattle.decimal.specs.Signed.{raised_of}
 use Rattle.decimal.proofs.signed.signed_at.Goals as goal
 
--- auto byte_at-requires
-
 pub overflow_add-at : goal.overflow_add-at
 overflow_add-at c = let h = c.byte_at.ensures.within (omega arith) in omega arith
-
--- auto number_at-requires
-
--- auto enum_known-n
-
--- auto enum_told-1
 
 pub returns-in_default : goal.returns-in_default
 returns-in_default c = sym (ap raised_of (minus_none _ _ _ c.byte_at.ensures.is c.if-byte_at-eq45.true (sym c.number_at.ensures ∙ c.in_default.is)))
@@ -26,19 +18,11 @@ returns-then-n-eq0 c = sym (ap raised_of (minus_zero _ _ _ c.byte_at.ensures.is 
 pub returns-then-n-gt-RAISE : goal.returns-then-n-gt-RAISE
 returns-then-n-gt-RAISE c = sym (ap raised_of (minus_over _ _ _ c.byte_at.ensures.is c.if-byte_at-eq45.true _ _ (sym c.number_at.ensures ∙ c.in-Value.is) c.if-n-eq0.false c.if-n-gt-RAISE.true))
 
--- auto number_at-requires-else-byte_at-eq45
-
--- auto enum_known-n-in-Value-number_at-2
-
--- auto enum_told-in_default-number_at
-
 pub returns-in_default-number_at : goal.returns-in_default-number_at
 returns-in_default-number_at c = sym (ap raised_of (plus_none _ _ _ c.byte_at.ensures.is c.if-byte_at-eq45.false (sym c.number_at-else-byte_at-eq45.ensures ∙ c.in_default-number_at.is)))
 
 pub returns-then-n-ge-RAISE : goal.returns-then-n-ge-RAISE
 returns-then-n-ge-RAISE c = sym (ap raised_of (plus_over _ _ _ c.byte_at.ensures.is c.if-byte_at-eq45.false _ _ (sym c.number_at-else-byte_at-eq45.ensures ∙ c.in-Value-number_at.is) c.if-n-ge-RAISE.true))
-
--- auto overflow_add-result
 
 pub returns-else-n-gt-RAISE : goal.returns-else-n-gt-RAISE
 returns-else-n-gt-RAISE c =

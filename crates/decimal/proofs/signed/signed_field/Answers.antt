@@ -5,17 +5,9 @@ use Rattle.decimal.specs.Signed.{raised_of, signed_field_at}
 use Rattle.decimal.specs.OnLaws.{found, absent}
 use Rattle.decimal.proofs.signed.signed_field.Goals as goal
 
--- auto past-requires
-
--- auto enum_known-p
-
--- auto enum_told-1
-
 pub returns-in_default : goal.returns-in_default
 unfolding signed_field_at
 returns-in_default c = sym (ap raised_of (absent _ _ (sym c.past.ensures ∙ c.in_default.is)))
-
--- auto signed_at-requires
 
 pub returns : goal.returns
 unfolding signed_field_at

@@ -7,18 +7,12 @@ use borrow.Author.Tests.{lt-ltb, le-ltb}
 use Rattle.decimal.proofs.Minus.{neg_fits, pos_fits}
 use Rattle.decimal.proofs.signed.signed_value.Goals as goal
 
--- auto overflow_sub-n
-
--- auto negative-requires
-
 pub returns-then-n-lt-RAISE : goal.returns-then-n-lt-RAISE
 returns-then-n-lt-RAISE c =
-    let n = c.args.n in 
+    let n = c.args.n in
     rw (c.negative.ensures, to_z-of_z (neg_fits (2147483648 - n - 1) (omega arith)), lt-ltb n 2147483648 (omega arith))
-
--- auto positive-requires
 
 pub returns : goal.returns
 returns c =
-    let n = c.args.n in 
+    let n = c.args.n in
     rw (c.positive.ensures, to_z-of_z (pos_fits (n - 2147483648) (omega arith)), le-ltb n 2147483648 (omega arith))

@@ -13,18 +13,8 @@ loop-j-init c = (search rules, refl)
 pub returns-then-text-i : goal.returns-then-text-i
 returns-then-text-i c = sym (text_end _ _ _ _ c.loop-j-test.true c.if-text-i.true) ∙ c.loop-j.invariant.1
 
--- auto bounds-text-i
-
--- auto bounds-word-j
-
 pub returns-then-text-i-2 : goal.returns-then-text-i-2
 returns-then-text-i-2 c = sym (differs _ _ _ _ c.loop-j-test.true c.if-text-i.false c.if-text-i-2.true) ∙ c.loop-j.invariant.1
-
--- auto overflow_add-i
-
--- auto overflow_add-j
-
--- auto loop-j-smaller
 
 pub loop-j-preserved : goal.loop-j-preserved
 loop-j-preserved c = (search rules, sym (agrees _ _ _ _ c.loop-j-test.true c.if-text-i.false c.if-text-i-2.false) ∙ c.loop-j.invariant.1)

@@ -16,17 +16,17 @@ loop-k-init c = (omega arith, refl, front_none _ _)
 
 pub overflow_mul-count : goal.overflow_mul-count
 overflow_mul-count c =
-    let p = c.requires in 
+    let p = c.requires in
     record { fits = omega (arith, p.few, p.fewer) }
 
 pub offset_bounds-firsts-k : goal.offset_bounds-firsts-k
 offset_bounds-firsts-k c =
-    let p = c.requires in 
+    let p = c.requires in
     record { fits = omega (arith, p.few, p.fewer, c.loop-k-test.true) }
 
 pub bounds-firsts-k : goal.bounds-firsts-k
 bounds-firsts-k c =
-    let p = c.requires in 
+    let p = c.requires in
     carry_first p c.loop-k.k c.loop-k-test.true
 
 pub index-first-requires : goal.index-first-requires
@@ -34,42 +34,42 @@ index-first-requires c = tt
 
 pub overflow_mul-first : goal.overflow_mul-first
 overflow_mul-first c =
-    let t = c.loop-k-test.true in 
-    let l = c.loop-k in 
-    let p = c.requires in 
+    let t = c.loop-k-test.true in
+    let l = c.loop-k in
+    let p = c.requires in
     record { fits = omega (arith, c.index-first.ensures, carry_entry p l.k t, p.few) }
 
 pub overflow_add-first : goal.overflow_add-first
 overflow_add-first c =
-    let t = c.loop-k-test.true in 
-    let l = c.loop-k in 
-    let p = c.requires in 
+    let t = c.loop-k-test.true in
+    let l = c.loop-k in
+    let p = c.requires in
     record { fits = omega (arith, c.index-first.ensures, carry_entry p l.k t, p.few) }
 
 pub label_at-requires : goal.label_at-requires
 label_at-requires c =
-    let t = c.loop-k-test.true in 
-    let l = c.loop-k in 
-    let p = c.requires in 
+    let t = c.loop-k-test.true in
+    let l = c.loop-k in
+    let p = c.requires in
     (p.classes_room, omega (arith, c.index-first.ensures, carry_entry p l.k t, p.moves_room))
 
 pub offset_bounds-merged-k : goal.offset_bounds-merged-k
 offset_bounds-merged-k c =
-    let t = c.loop-k-test.true in 
-    let p = c.requires in 
+    let t = c.loop-k-test.true in
+    let p = c.requires in
     record { fits = omega (arith, p.few, p.fewer, t) }
 
 pub bounds-merged-k : goal.bounds-merged-k
 bounds-merged-k c =
-    let t = c.loop-k-test.true in 
-    let l = c.loop-k in 
-    let p = c.requires in 
+    let t = c.loop-k-test.true in
+    let l = c.loop-k in
+    let p = c.requires in
     omega (arith, l.invariant.1, p.merged_room, p.fewer, t)
 
 pub overflow_add-k : goal.overflow_add-k
 overflow_add-k c =
-    let t = c.loop-k-test.true in 
-    let p = c.requires in 
+    let t = c.loop-k-test.true in
+    let p = c.requires in
     record { fits = omega (arith, p.few, p.fewer, t) }
 
 pub loop-k-smaller : goal.loop-k-smaller
@@ -77,9 +77,9 @@ loop-k-smaller c = omega (arith, c.loop-k-test.true)
 
 pub loop-k-preserved : goal.loop-k-preserved
 loop-k-preserved c =
-    let t = c.loop-k-test.true in 
-    let l = c.loop-k in 
-    let p = c.requires in 
+    let t = c.loop-k-test.true in
+    let l = c.loop-k in
+    let p = c.requires in
     let a = c.args in (
       omega (arith, t),
       length-set l.merged l.k c.label_at.result ∙ l.invariant.1,
@@ -93,6 +93,6 @@ shape_of-merged c = c.loop-k.invariant.1
 
 pub returns : goal.returns
 returns c =
-    let a = c.args in 
+    let a = c.args in
     c.loop-k.invariant.2 ∙ ap (λ k. front k (carried a.n a.moves.now a.classes.now a.firsts.now) a.merged.now)
     (omega (arith, c.loop-k.invariant.0, c.loop-k-test.false))

@@ -12,15 +12,15 @@ loop-i-init c = (omega arith, numbered_none _ _ _, refl, refl)
 
 pub number_state-count-requires : goal.number_state-count-requires
 number_state-count-requires c =
-    let t = c.loop-i-test.true in 
-    let l = c.loop-i in 
-    let p = c.requires in 
+    let t = c.loop-i-test.true in
+    let l = c.loop-i in
+    let p = c.requires in
     number_can p l.invariant.2 l.invariant.3 t l.invariant.1
 
 pub overflow_add-i : goal.overflow_add-i
 overflow_add-i c =
-    let t = c.loop-i-test.true in 
-    let p = c.requires in 
+    let t = c.loop-i-test.true in
+    let p = c.requires in
     record { fits = omega (arith, t, p.few) }
 
 pub loop-i-smaller : goal.loop-i-smaller
@@ -28,7 +28,7 @@ loop-i-smaller c = omega (arith, c.loop-i-test.true)
 
 pub loop-i-preserved : goal.loop-i-preserved
 loop-i-preserved c =
-    let t = c.loop-i-test.true in 
+    let t = c.loop-i-test.true in
     let l = c.loop-i in (
       omega (arith, t),
       c.number_state-count.ensures.numbered,

@@ -17,22 +17,22 @@ index-leader-requires c = tt
 
 pub overflow_cast-firsts : goal.overflow_cast-firsts
 overflow_cast-firsts c =
-    let p = c.requires in 
+    let p = c.requires in
     record { fits = omega (arith, p.few, count_fits p) }
 
 pub offset_bounds-firsts-count : goal.offset_bounds-firsts-count
 offset_bounds-firsts-count c =
-    let p = c.requires in 
+    let p = c.requires in
     record { fits = omega (arith, p.few, count_fits p) }
 
 pub bounds-firsts-count : goal.bounds-firsts-count
 bounds-firsts-count c =
-    let p = c.requires in 
+    let p = c.requires in
     omega (arith, p.firsts_room, count_fits p)
 
 pub overflow_cast-classes : goal.overflow_cast-classes
 overflow_cast-classes c =
-    let p = c.requires in 
+    let p = c.requires in
     record { fits = omega (arith, p.few, count_fits p) }
 
 pub offset_bounds-classes-i : goal.offset_bounds-classes-i
@@ -43,16 +43,12 @@ bounds-classes-i c = c.requires.classes_room
 
 pub overflow_add-result : goal.overflow_add-result
 overflow_add-result c =
-    let p = c.requires in 
+    let p = c.requires in
     record { fits = omega (arith, p.few, count_fits p) }
-
--- auto shape_of-classes-then-leader-i
-
--- auto shape_of-firsts-then-leader-i
 
 pub returns-then-leader-i : goal.returns-then-leader-i
 returns-then-leader-i c =
-    let p = c.requires in 
+    let p = c.requires in
     let a = c.args in record {
       numbered = number_first p (sym c.index-leader.ensures ∙ c.if-leader-i.true);
       classes_len_unchanged = (length-set a.classes.now a.i a.count, length-set a.firsts.now a.count a.i);
@@ -60,12 +56,12 @@ returns-then-leader-i c =
 
 pub offset_bounds-classes-leader : goal.offset_bounds-classes-leader
 offset_bounds-classes-leader c =
-    let p = c.requires in 
+    let p = c.requires in
     record { fits = omega (arith, c.index-leader.ensures, p.led.most, p.few) }
 
 pub bounds-classes-leader : goal.bounds-classes-leader
 bounds-classes-leader c =
-    let p = c.requires in 
+    let p = c.requires in
     omega (arith, c.index-leader.ensures, p.led.most, p.classes_room)
 
 pub offset_bounds-classes-i-2 : goal.offset_bounds-classes-i-2
@@ -74,11 +70,9 @@ offset_bounds-classes-i-2 c = record { fits = omega (arith, c.requires.few) }
 pub bounds-classes-i-2 : goal.bounds-classes-i-2
 bounds-classes-i-2 c = c.requires.classes_room
 
--- auto shape_of-classes
-
 pub returns : goal.returns
 returns c =
-    let p = c.requires in 
+    let p = c.requires in
     let a = c.args in record {
       numbered = number_other p c.index-leader.result c.index-leader.ensures c.if-leader-i.false;
       classes_len_unchanged = (length-set a.classes.now a.i (get_or a.classes.now c.index-leader.result 0), refl);

@@ -11,23 +11,13 @@ use Rattle.merge.proofs.rounds.copy.Goals as goal
 pub loop-i-init : goal.loop-i-init
 loop-i-init c = (omega arith, refl, front_none _ _)
 
--- auto offset_bounds-from-i
-
--- auto bounds-from-i
-
--- auto offset_bounds-to-i
-
 pub bounds-to-i : goal.bounds-to-i
 bounds-to-i c = omega (arith, c.loop-i.invariant.1, c.requires.1, c.loop-i-test.true)
 
--- auto overflow_add-i
-
--- auto loop-i-smaller
-
 pub loop-i-preserved : goal.loop-i-preserved
 loop-i-preserved c =
-    let p = c.requires in 
-    let a = c.args in 
+    let p = c.requires in
+    let a = c.args in
     let l = c.loop-i in (
       omega (arith, c.loop-i-test.true),
       length-set l.to l.i _ ∙ l.invariant.1,
@@ -39,6 +29,6 @@ shape_of-to c = c.loop-i.invariant.1
 
 pub returns : goal.returns
 returns c =
-    let l = c.loop-i in 
+    let l = c.loop-i in
     l.invariant.2 ∙ ap (λ k. front k (at c.args.from.now) c.args.to.now)
     (omega (arith, l.invariant.0, c.loop-i-test.false))

@@ -13,8 +13,8 @@ loop-k-init c = (omega arith, c.requires.2, refl, refl)
 
 pub refine-requires : goal.refine-requires
 refine-requires c =
-    let l = c.loop-k in 
-    let p = c.requires in 
+    let l = c.loop-k in
+    let p = c.requires in
     round_can (room_kept p.0 l.invariant.2) l.invariant.1 (omega (arith, p.1, l.invariant.3))
 
 pub shape_of-leaders-then-refine-eq0 : goal.shape_of-leaders-then-refine-eq0
@@ -22,12 +22,12 @@ shape_of-leaders-then-refine-eq0 c = c.loop-k.invariant.2
 
 pub shape_of-next-then-refine-eq0 : goal.shape_of-next-then-refine-eq0
 shape_of-next-then-refine-eq0 c =
-    let l = c.loop-k in 
+    let l = c.loop-k in
     c.refine.ensures.same_room ∙ l.invariant.3
 
 pub returns-then-refine-eq0 : goal.returns-then-refine-eq0
 returns-then-refine-eq0 c =
-    let l = c.loop-k in 
+    let l = c.loop-k in
     let p = c.requires in (
       round_last (room_kept p.0 l.invariant.2) l.invariant.1 c.refine.ensures l.invariant.0 c.if-refine-eq0.true,
       l.invariant.2,
@@ -35,7 +35,7 @@ returns-then-refine-eq0 c =
 
 pub copy-requires : goal.copy-requires
 copy-requires c =
-    let l = c.loop-k in 
+    let l = c.loop-k in
     let p = c.requires in (
       omega (arith, c.refine.ensures.same_room, l.invariant.3, p.1),
       omega (arith, l.invariant.2, p.0.room),
@@ -43,8 +43,8 @@ copy-requires c =
 
 pub overflow_add-k : goal.overflow_add-k
 overflow_add-k c =
-    let t = c.loop-k-test.true in 
-    let p = c.requires in 
+    let t = c.loop-k-test.true in
+    let p = c.requires in
     record { fits = omega (arith, t, p.0.few) }
 
 pub loop-k-smaller : goal.loop-k-smaller
@@ -52,8 +52,8 @@ loop-k-smaller c = omega (arith, c.loop-k-test.true)
 
 pub loop-k-preserved : goal.loop-k-preserved
 loop-k-preserved c =
-    let t = c.loop-k-test.true in 
-    let l = c.loop-k in 
+    let t = c.loop-k-test.true in
+    let l = c.loop-k in
     let p = c.requires in (
       omega (arith, t),
       round_next (room_kept p.0 l.invariant.2) l.invariant.1

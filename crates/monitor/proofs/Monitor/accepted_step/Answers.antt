@@ -9,28 +9,22 @@ use Rattle.monitor.specs.Take.{step_taken}
 use borrow.Author.Rules.{rules}
 use Rattle.monitor.proofs.Monitor.accepted_step.Goals as goal
 
--- auto overflow_cast-t-8
-
 pub returns-then-zone : goal.returns-then-zone
 returns-then-zone c = let a = c.args in sym (step_bad_zone (active_rules a.list) a.self a.zone (omega arith))
 
--- auto valid-requires
-
 pub returns-then-not-valid : goal.returns-then-not-valid
 returns-then-not-valid c =
-    let a = c.args in 
+    let a = c.args in
     sym (
     step_bad_state (active_rules a.list) a.self a.zone (omega arith)
     (sym c.valid.ensures ∙ not-true c.valid.result c.if-not-valid.true-raw))
 
 pub returns-then-points-ge-MAX_NUMBER : goal.returns-then-points-ge-MAX_NUMBER
 returns-then-points-ge-MAX_NUMBER c =
-    let a = c.args in 
+    let a = c.args in
     sym (
     step_bad_count (active_rules a.list) a.self a.zone (omega arith)
     (sym c.valid.ensures ∙ not-false c.valid.result c.if-not-valid.false-raw) (omega arith))
-
--- auto overflow_add-count
 
 pub take-requires : goal.take-requires
 take-requires c = record {
@@ -38,15 +32,9 @@ take-requires c = record {
       state_value = sym c.valid.ensures ∙ not-false c.valid.result c.if-not-valid.false-raw;
     }
 
--- auto enum_known-next
-
--- auto enum_known-mask
-
--- auto fresh-requires
-
 pub returns-in-Quiet : goal.returns-in-Quiet
 returns-in-Quiet c =
-    let a = c.args in 
+    let a = c.args in
     let valid = sym c.valid.ensures ∙ not-false c.valid.result c.if-not-valid.false-raw in
     sym (
     step_take (active_rules a.list) a.self a.zone (omega arith) valid (omega arith)
@@ -54,7 +42,7 @@ returns-in-Quiet c =
 
 pub returns-in-Signal : goal.returns-in-Signal
 returns-in-Signal c =
-    let a = c.args in 
+    let a = c.args in
     let valid = sym c.valid.ensures ∙ not-false c.valid.result c.if-not-valid.false-raw in
     rw c.fresh.ensures
     (sym (

@@ -8,12 +8,6 @@ use Rattle.monitor.specs.Step.{step_of}
 use Rattle.monitor.proofs.StepLaws.{rules_accepted}
 use Rattle.monitor.proofs.Monitor.step.Goals as goal
 
--- auto check-checked-requires
-
--- auto enum_known-checked
-
--- auto enum_told-1
-
 pub accepted_step-requires : goal.accepted_step-requires
 accepted_step-requires c =
     let ok = is_accepted (tag_of the_type) (λ x. refl) c.check-checked.ensures c.in-Accepted.in-Accepted-own.keys2 in
@@ -27,5 +21,5 @@ returns-in-Refused c = rw (← c.check-checked.ensures, c.in-Refused.is)
 pub returns-in-Accepted : goal.returns-in-Accepted
 returns-in-Accepted c =
     let ok = is_accepted (tag_of the_type) (λ x. refl) c.check-checked.ensures c.in-Accepted.in-Accepted-own.keys2 in
-    let a = c.args in 
+    let a = c.args in
     c.accepted_step.ensures ∙ sym (rules_accepted a.list ok a.self a.zone)

@@ -2,7 +2,5 @@
 use borrow.Author.Rules.{rules}
 use Rattle.monitor.proofs.zone.sigma_fits.Goals as goal
 
--- auto within-requires
-
 pub returns : goal.returns
 returns c = c.within.ensures

@@ -10,25 +10,23 @@ use Rattle.monitor.specs.ZoneLaws.{zone_fits, zone_refused}
 use Rattle.monitor.specs.declared.zone.ZoneAnswer.TheVariants.{Zone}
 use Rattle.monitor.proofs.zone.zone_of.Goals as goal
 
--- auto sigma_fits-requires
-
 pub returns-then-not-sigma_fits : goal.returns-then-not-sigma_fits
 returns-then-not-sigma_fits c =
-    let fits = c.sigma_fits in 
-    let a = c.args in 
+    let fits = c.sigma_fits in
+    let a = c.args in
     sym (zone_refused a.reading a.centre a.sigma
     (sym fits.ensures ∙ not-true fits.result c.if-not-sigma_fits.true-raw))
 
 pub zone_at-requires : goal.zone_at-requires
 zone_at-requires c =
-    let fits = c.sigma_fits in 
-    let a = c.args in 
+    let fits = c.sigma_fits in
+    let a = c.args in
     (between min_sigma max_sigma a.sigma (sym fits.ensures ∙ not-false fits.result c.if-not-sigma_fits.false-raw)).1
 
 pub returns : goal.returns
 returns c =
-    let fits = c.sigma_fits in 
-    let a = c.args in 
+    let fits = c.sigma_fits in
+    let a = c.args in
     ap Zone (
     c.zone_at.ensures
     ∙ ap₂ (λ (x y : ℤ). zone_at (x -ℤ y) a.sigma) (to_z-of_z c.ranges.reading) (to_z-of_z c.ranges.centre))

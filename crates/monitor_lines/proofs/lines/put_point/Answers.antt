@@ -23,68 +23,37 @@ module _ {a b : List ℕ} {i r : ℕ} {p : PointLine} {node n period : ℕ} wher
   unfolding point_bytes
   wrote_signal e w = rw e w
 
--- the numbers of either line have 32 bits
-quiet-fits : (k : tie.After-known-told)
-    → Fits w32 k.before.line.given.0.0 × Fits w32 k.before.line.given.0.1.0
-    × Fits w32 k.before.line.given.0.1.1.0
-quiet-fits k = omega arith
-
-signal-fits : (k : tie.After-known-told2)
-    → Fits w32 k.before.line2.given.0.0 × Fits w32 k.before.line2.given.0.1.0
-    × Fits w32 k.before.line2.given.0.1.1.0 × Fits w32 k.before.line2.given.0.1.1.1.0
-signal-fits k = omega arith
-
--- auto enum_known-line
-
--- auto overflow_cast-node
-
 pub put_named-a-requires : goal.put_named-a-requires
-put_named-a-requires c = omega (arith, field_short, quiet-fits ?PLACE:After-put_named-arg)
-
--- auto overflow_cast-count
+put_named-a-requires c = omega (arith, field_short {n = c.in-Quiet.node} (omega arith), field_short {n = c.in-Quiet.count} (omega arith), field_short {n = c.in-Quiet.period} (omega arith))
 
 pub put_field-b-requires : goal.put_field-b-requires
-put_field-b-requires c = omega (arith, field_short, quiet-fits ?PLACE:After-put_named-arg)
-
--- auto overflow_cast-period
+put_field-b-requires c = omega (arith, field_short {n = c.in-Quiet.node} (omega arith), field_short {n = c.in-Quiet.count} (omega arith), field_short {n = c.in-Quiet.period} (omega arith))
 
 pub put_field-e-requires : goal.put_field-e-requires
 put_field-e-requires c =
-    omega (arith, field_short, quiet-fits ?PLACE:After-put_named-arg)
+    omega (arith, field_short {n = c.in-Quiet.node} (omega arith), field_short {n = c.in-Quiet.count} (omega arith), field_short {n = c.in-Quiet.period} (omega arith))
 
 pub put_byte-requires : goal.put_byte-requires
 put_byte-requires c =
-    omega (arith, field_short, quiet-fits ?PLACE:After-put_named-arg)
-
--- auto enum_known-line-in-Signal-1
-
--- auto overflow_cast-node-in-Signal
+    omega (arith, field_short {n = c.in-Quiet.node} (omega arith), field_short {n = c.in-Quiet.count} (omega arith), field_short {n = c.in-Quiet.period} (omega arith))
 
 pub put_named-a-requires-in-Signal : goal.put_named-a-requires-in-Signal
-put_named-a-requires-in-Signal c = omega (arith, field_short, signal-fits ?PLACE:After-put_named-arg4)
-
--- auto overflow_cast-count-in-Signal
+put_named-a-requires-in-Signal c = omega (arith, field_short {n = c.in-Signal.node} (omega arith), field_short {n = c.in-Signal.count} (omega arith), field_short {n = c.in-Signal.mask} (omega arith), field_short {n = c.in-Signal.period} (omega arith))
 
 pub put_field-b-requires-in-Signal : goal.put_field-b-requires-in-Signal
-put_field-b-requires-in-Signal c = omega (arith, field_short, signal-fits ?PLACE:After-put_named-arg4)
-
--- auto overflow_cast-mask
+put_field-b-requires-in-Signal c = omega (arith, field_short {n = c.in-Signal.node} (omega arith), field_short {n = c.in-Signal.count} (omega arith), field_short {n = c.in-Signal.mask} (omega arith), field_short {n = c.in-Signal.period} (omega arith))
 
 pub put_field-e-requires-in-Signal : goal.put_field-e-requires-in-Signal
 put_field-e-requires-in-Signal c =
-    omega (arith, field_short, signal-fits ?PLACE:After-put_named-arg4)
-
--- auto overflow_cast-period-in-Signal
+    omega (arith, field_short {n = c.in-Signal.node} (omega arith), field_short {n = c.in-Signal.count} (omega arith), field_short {n = c.in-Signal.mask} (omega arith), field_short {n = c.in-Signal.period} (omega arith))
 
 pub put_field-f-requires : goal.put_field-f-requires
 put_field-f-requires c =
-    omega (arith, field_short, signal-fits ?PLACE:After-put_named-arg4)
+    omega (arith, field_short {n = c.in-Signal.node} (omega arith), field_short {n = c.in-Signal.count} (omega arith), field_short {n = c.in-Signal.mask} (omega arith), field_short {n = c.in-Signal.period} (omega arith))
 
 pub put_byte-requires-in-Signal : goal.put_byte-requires-in-Signal
 put_byte-requires-in-Signal c =
-    omega (arith, field_short, signal-fits ?PLACE:After-put_named-arg4)
-
--- auto shape_of-out-in-Quiet
+    omega (arith, field_short {n = c.in-Signal.node} (omega arith), field_short {n = c.in-Signal.count} (omega arith), field_short {n = c.in-Signal.mask} (omega arith), field_short {n = c.in-Signal.period} (omega arith))
 
 pub returns-in-Quiet : goal.returns-in-Quiet
 unfolding quiet_line
@@ -92,10 +61,8 @@ returns-in-Quiet c =
     let fields = then (then c.put_named-a.ensures c.put_field-b.ensures) c.put_field-e.ensures in
     let line = then fields c.put_byte.ensures in record {
       wrote = wrote_quiet c.in-Quiet.is line;
-      upper_bound = omega (arith, field_short, quiet-fits k);
+      upper_bound = omega (arith, field_short {n = c.in-Quiet.node} (omega arith), field_short {n = c.in-Quiet.count} (omega arith), field_short {n = c.in-Quiet.period} (omega arith));
     }
-
--- auto shape_of-out-in-Signal
 
 pub returns-in-Signal : goal.returns-in-Signal
 unfolding signal_line
@@ -103,5 +70,5 @@ returns-in-Signal c =
     let fields = then (then c.put_named-a-in-Signal.ensures c.put_field-b-in-Signal.ensures) c.put_field-e-in-Signal.ensures in
     let line = then (then fields c.put_field-f.ensures) c.put_byte-in-Signal.ensures in record {
       wrote = wrote_signal c.in-Signal.is line;
-      upper_bound = omega (arith, field_short, signal-fits k);
+      upper_bound = omega (arith, field_short {n = c.in-Signal.node} (omega arith), field_short {n = c.in-Signal.count} (omega arith), field_short {n = c.in-Signal.mask} (omega arith), field_short {n = c.in-Signal.period} (omega arith));
     }

@@ -6,25 +6,17 @@ use Rattle.write.proofs.FieldLaws.{field_short}
 use Rattle.monitor_lines.specs.MonitorLines.{total_line}
 use Rattle.monitor_lines.proofs.lines.put_total.Goals as goal
 
--- auto overflow_cast-line
-
 pub put_named-a-requires : goal.put_named-a-requires
 put_named-a-requires c = omega (arith, field_short)
 
--- auto overflow_cast-line-2
-
 pub put_field-b-requires : goal.put_field-b-requires
 put_field-b-requires c = omega (arith, field_short)
-
--- auto overflow_cast-line-3
 
 pub put_field-e-requires : goal.put_field-e-requires
 put_field-e-requires c = omega (arith, field_short)
 
 pub put_byte-requires : goal.put_byte-requires
 put_byte-requires c = omega (arith, field_short)
-
--- auto shape_of-out
 
 pub returns : goal.returns
 unfolding total_line

@@ -4,11 +4,7 @@ use Rattle.write.proofs.PrintedLaws.{output_by}
 use Rattle.monitor_report.specs.MonitorReport.{monitor_printed}
 use Rattle.monitor_report.proofs.monitors.monitor_output.Goals as goal
 
--- auto monitor_report-answer-requires
-
--- auto put_answer-requires
-
 pub returns : goal.returns
 returns c =
-    let a = c.args in 
+    let a = c.args in
     output_by (monitor_printed a.text.now) c.monitor_report-answer.result c.monitor_report-answer.ensures c.put_answer.ensures

@@ -14,36 +14,26 @@ use Rattle.monitor_report.specs.Points.{monitor_room}
 use Rattle.monitor_report.proofs.MonitorReportLaws.{monitor_refused, rules_refused, sigma_refused, text_short, points_bench, points_few, points_written}
 use Rattle.monitor_report.proofs.monitors.monitor_report.Goals as goal
 
--- auto monitor_text-read-requires
-
 pub returns-then-refusal-ne0 : goal.returns-then-refusal-ne0
 returns-then-refusal-ne0 c =
-    let a = c.args in 
+    let a = c.args in
     monitor_refused a.text.now a.out.now c.monitor_text-read.result c.monitor_text-read.ensures c.if-refusal-ne0.true
-
--- auto check-requires
-
--- auto enum_known-r
 
 pub returns-in-Refused : goal.returns-in-Refused
 returns-in-Refused c =
-    let a = c.args in 
+    let a = c.args in
     rules_refused a.text.now a.out.now c.monitor_text-read.result c.monitor_text-read.ensures c.if-refusal-ne0.false _ (sym c.check.ensures ∙ c.in-Refused.is)
-
--- auto enum_told-1
-
--- auto sigma_fits-requires
 
 pub returns-then-not-sigma_fits : goal.returns-then-not-sigma_fits
 returns-then-not-sigma_fits c =
-    let a = c.args in 
+    let a = c.args in
     sigma_refused a.text.now a.out.now c.monitor_text-read.result c.monitor_text-read.ensures c.if-refusal-ne0.false
     (is_accepted (tag_of the_type) (λ x. refl) c.check.ensures c.in-Accepted.in-Accepted-own.keys2)
     (sym c.sigma_fits.ensures ∙ not-true c.sigma_fits.result c.if-not-sigma_fits.true-raw)
 
 pub put_points-n-requires : goal.put_points-n-requires
 put_points-n-requires c =
-    let a = c.args in 
+    let a = c.args in
     let ok = is_accepted (tag_of the_type) (λ x. refl) c.check.ensures c.in-Accepted.in-Accepted-own.keys2 in
     let fits = sym c.sigma_fits.ensures ∙ not-false c.sigma_fits.result c.if-not-sigma_fits.false-raw in
     let b = accepted c.monitor_text-read.result.list ok in
@@ -51,11 +41,17 @@ put_points-n-requires c =
     let bench = points_bench a.text.now a.out.now c.monitor_text-read.result c.monitor_text-read.ensures c.if-refusal-ne0.false ok fits in
     let few = points_few a.text.now a.out.now c.monitor_text-read.result c.monitor_text-read.ensures c.if-refusal-ne0.false ok fits in
     let size : length a.out.now ≡ monitor_room = search rules in
-    ((b.1, b.2), (between min_sigma max_sigma c.monitor_text-read.result.sigma fits, (short, (bench, omega (arith, few, short, size)))))
+    record {
+      len_le_max_rules = (b.1, b.2);
+      min_sigma_le_sigma = between min_sigma max_sigma c.monitor_text-read.result.sigma fits;
+      text_len_bound = short;
+      on_bench = bench;
+      node_count_in_bounds = omega (arith, few, short, size);
+    }
 
 pub returns : goal.returns
 returns c =
-    let a = c.args in 
+    let a = c.args in
     let ok = is_accepted (tag_of the_type) (λ x. refl) c.check.ensures c.in-Accepted.in-Accepted-own.keys2 in
     let fits = sym c.sigma_fits.ensures ∙ not-false c.sigma_fits.result c.if-not-sigma_fits.false-raw in
     let centre : to_z w32 (of_z w32 c.monitor_text-read.result.centre) ≡ c.monitor_text-read.result.centre = search rules in

@@ -5,27 +5,13 @@ use Rattle.monitor_report.specs.NodesLaws.{node_taken_lem}
 use borrow.Author.Rules.{rules}
 use Rattle.monitor_report.proofs.nodes.chart_point.Goals as goal
 
--- auto overflow_add-count
-
--- auto overflow_add-points
-
--- auto take-requires
-
--- auto enum_known-next
-
--- auto enum_known-mask
-
--- auto fresh-requires
-
--- auto overflow_add-result
-
 pub returns-in-Quiet : goal.returns-in-Quiet
 returns-in-Quiet c =
-    let a = c.args in 
+    let a = c.args in
     node_taken_lem (active_rules a.list) a.k a.node a.zone (sym c.in-Quiet.is ∙ c.take.ensures)
 
 pub returns-in-Signal : goal.returns-in-Signal
 returns-in-Signal c =
-    let a = c.args in 
+    let a = c.args in
     rw c.fresh.ensures
     (node_taken_lem (active_rules a.list) a.k a.node a.zone (sym c.in-Signal.is ∙ c.take.ensures))

@@ -2,7 +2,5 @@
 use borrow.Author.Rules.{rules}
 use Rattle.monitor_report.proofs.nodes.fresh_node.Goals as goal
 
--- auto fresh-requires
-
 pub returns : goal.returns
 returns c = rw c.fresh.ensures

@@ -12,10 +12,6 @@ returns-then-node-eq0 c =
       upper_bound = omega arith;
     }
 
--- auto put_total-requires
-
--- auto shape_of-out
-
 pub returns : goal.returns
 returns c =
     let a = c.args in record {

@@ -3,8 +3,6 @@ use borrow.Author.Rules.{rules}
 use Rattle.monitor_text.specs.ReadMonitor.{refused_monitor}
 use Rattle.monitor_text.proofs.monitors.refused_monitor.Goals as goal
 
--- auto no_rules-requires
-
 pub returns : goal.returns
 unfolding refused_monitor
 returns c = rw c.no_rules.ensures

@@ -4,12 +4,8 @@ use Rattle.next_row.proofs.OneRowLaws.{point_some}
 use borrow.Author.Rules.{rules}
 use Rattle.next_row.proofs.flow.next_point.Goals as goal
 
--- auto returns-then-total-eq0
-
 pub make_row-requires : goal.make_row-requires
 make_row-requires c = c.requires.some (omega arith)
-
--- auto shape_of-next
 
 pub returns : goal.returns
 returns c = search (rules, point_some)

@@ -8,41 +8,9 @@ use Rattle.next_row.specs.ArrivalsLaws.{group_can, arrive_start, arrive_more, ar
 use borrow.Author.Rules.{rules}
 use Rattle.next_row.proofs.inflow.arrive.Goals as goal
 
--- auto overflow_add-t
-
--- auto offset_bounds-groups-t
-
--- auto bounds-groups-t
-
--- auto index-end-requires
-
--- auto offset_bounds-groups-t-2
-
--- auto bounds-groups-t-2
-
--- auto index-g-requires
-
 pub loop-g-init : goal.loop-g-init
 loop-g-init c =
     (omega (arith, c.requires.rise c.args.t (c.args.t + 1) (omega arith) (omega arith)), arrive_start c.args.t c.requires c.index-g.ensures)
-
--- auto offset_bounds-firsts-g
-
--- auto bounds-firsts-g
-
--- auto index-first-requires
-
--- auto overflow_add-g
-
--- auto offset_bounds-firsts-g-in-loop-g
-
--- auto bounds-firsts-g-in-loop-g
-
--- auto index-last-requires
-
--- auto offset_bounds-shares-g
-
--- auto bounds-shares-g
 
 pub weigh-by-requires : goal.weigh-by-requires
 weigh-by-requires c =
@@ -55,10 +23,6 @@ overflow_add-high c =
 pub overflow_add-low : goal.overflow_add-low
 overflow_add-low c =
     omega (arith, arrive_low c.args.t c.requires (omega arith) refl c.index-first.ensures c.index-last.ensures c.loop-g.invariant.1 c.weigh-by.ensures)
-
--- auto overflow_add-g-in-loop-g
-
--- auto loop-g-smaller
 
 pub loop-g-preserved : goal.loop-g-preserved
 loop-g-preserved c =

@@ -9,8 +9,6 @@ use Rattle.next_row.specs.ArrivalsLaws.{gather_two_room, gather_two, gather_room
 use borrow.Author.Rules.{rules}
 use Rattle.next_row.proofs.inflow.gather.Goals as goal
 
--- auto overflow_add-first
-
 pub source_at-requires : goal.source_at-requires
 source_at-requires c = search gather_read
 
@@ -23,12 +21,8 @@ returns-then-last-first c = search gather_none
 pub pair_at-sum-requires : goal.pair_at-sum-requires
 pair_at-sum-requires c = search (gather_pair, le_refl)
 
--- auto overflow_add-e
-
 pub loop-e-init : goal.loop-e-init
 loop-e-init c = (omega arith, omega arith, search gather_first)
-
--- auto overflow_add-e-in-loop-e
 
 pub pair_at-sum-requires-in-loop-e : goal.pair_at-sum-requires-in-loop-e
 pair_at-sum-requires-in-loop-e c = search gather_pair
@@ -37,10 +31,6 @@ pub overflow_add-sum : goal.overflow_add-sum
 overflow_add-sum c =
     let h : c.loop-e.sum + c.pair_at-sum-in-loop-e.result ≤ units_per_one = search gather_two_room in
     omega arith
-
--- auto overflow_add-e-in-loop-e-2
-
--- auto loop-e-smaller
 
 pub loop-e-preserved : goal.loop-e-preserved
 loop-e-preserved c = (omega arith, omega arith, search gather_two)

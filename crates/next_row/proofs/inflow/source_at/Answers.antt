@@ -4,12 +4,6 @@ use Rattle.next_row.specs.ArrivalsLaws.{read_in}
 use borrow.Author.Rules.{rules}
 use Rattle.next_row.proofs.inflow.source_at.Goals as goal
 
--- auto offset_bounds-sources-e
-
--- auto bounds-sources-e
-
--- auto index-s-requires
-
 pub offset_bounds-units-s : goal.offset_bounds-units-s
 offset_bounds-units-s c = omega (arith, read_in c.requires c.index-s.ensures)
 

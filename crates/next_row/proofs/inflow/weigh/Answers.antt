@@ -4,10 +4,6 @@ use Rattle.next_row.specs.ArrivalsLaws.{weigh_high, weigh_low, weigh_done}
 use borrow.Author.Rules.{rules}
 use Rattle.next_row.proofs.inflow.weigh.Goals as goal
 
--- auto gather-sum-requires
-
--- auto wide-w-requires
-
 pub overflow_mul-part : goal.overflow_mul-part
 overflow_mul-part c = omega (arith, weigh_low c.requires c.wide-w.ensures c.gather-sum.ensures)
 

@@ -2,16 +2,6 @@
 use borrow.Author.Rules.{rules}
 use Rattle.plot_arrays.proofs.arrays.write_items.Goals as goal
 
--- auto write_item-requires
-
--- auto write_item-requires-2
-
--- auto write_item-requires-3
-
--- auto write_item-requires-4
-
--- auto write_item-requires-5
-
 pub returns : goal.returns
 returns c =
     rw (c.write_item-5.ensures, c.write_item-4.ensures, c.write_item-3.ensures, c.write_item-2.ensures, c.write_item.ensures)

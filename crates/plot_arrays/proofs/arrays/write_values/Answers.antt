@@ -6,15 +6,7 @@ use lib.ListN.{set}
 use borrow.Author.Rules.{rules}
 use Rattle.plot_arrays.proofs.arrays.write_values.Goals as goal
 
--- auto write_items-requires
-
--- auto bounds-values-10
-
--- auto bounds-values-11
-
--- auto bounds-values-12
-
 pub returns : goal.returns
 returns c =
-    let f = c.args.found in 
+    let f = c.args.found in
     ap (λ (v : List Float). set (set (set v 10 f.lower) 11 f.upper) 12 f.iqr) c.write_items.ensures

@@ -9,122 +9,82 @@ use Rattle.rows.specs.RunningLaws.{sources_of, run_start, run_mean, run_point, r
 use borrow.Author.Rules.{rules}
 use Rattle.rows.proofs.rows.run_rows.Goals as goal
 
--- auto slice_bounds-list_sources-end
-
--- auto slice_bounds-list_sources-end-2
-
--- auto slice_bounds-list_sources-end-3
-
--- auto slice_bounds-list_sources-end-4
-
--- auto slice_bounds-list_sources-end-5
-
 pub list_sources-requires : goal.list_sources-requires
 list_sources-requires c = sources_of c.requires
-
--- auto bounds-units-0
 
 pub loop-k-init : goal.loop-k-init
 loop-k-init c = (omega arith, refl, refl, refl, run_start c.requires)
 
--- auto overflow_add-k
-
--- auto slice_bounds-next_point-end
-
--- auto slice_bounds-next_point-end-in-loop-k
-
--- auto slice_bounds-next_point-end-in-loop-k-2
-
--- auto slice_bounds-next_point-end-in-loop-k-3
-
--- auto slice_bounds-next_point-end-in-loop-k-4
-
--- auto slice_bounds-next_point-end-in-loop-k-5
-
--- auto slice_bounds-next_point-end-in-loop-k-6
-
 pub next_point-odd-requires : goal.next_point-odd-requires
 next_point-odd-requires c =
-    let p = c.requires in 
-    let v = c.loop-k.invariant in 
+    let p = c.requires in
+    let v = c.loop-k.invariant in
     run_point p v.4 c.list_sources.ensures v.3
 
 pub totals_with-half-requires : goal.totals_with-half-requires
 totals_with-half-requires c =
-    let p = c.requires in 
-    let v = c.loop-k.invariant in 
+    let p = c.requires in
+    let v = c.loop-k.invariant in
     run_mean p v.4 c.list_sources.ensures c.next_point-odd.ensures v.0
 
 pub put-requires : goal.put-requires
 put-requires c =
-    let p = c.requires in 
-    let v = c.loop-k.invariant in 
-    let t = c.loop-k-test.true in 
+    let p = c.requires in
+    let v = c.loop-k.invariant in
+    let t = c.loop-k-test.true in
     (omega (arith, t, v.1, p.pmf_room), omega (arith, t, v.2, p.survival_room))
-
--- auto slice_bounds-next_point-end-in-loop-k-7
-
--- auto slice_bounds-next_point-end-in-loop-k-8
-
--- auto slice_bounds-next_point-end-in-loop-k-9
-
--- auto slice_bounds-next_point-end-in-loop-k-10
-
--- auto slice_bounds-next_point-end-in-loop-k-11
-
--- auto slice_bounds-next_point-end-in-loop-k-12
 
 pub slice_bounds-next_point-end-in-loop-k-13 : goal.slice_bounds-next_point-end-in-loop-k-13
 slice_bounds-next_point-end-in-loop-k-13 c = sym c.loop-k.invariant.4.same
 
 pub next_point-even-requires : goal.next_point-even-requires
 next_point-even-requires c =
-    let p = c.requires in 
-    let v = c.loop-k.invariant in 
-    let t = c.loop-k-test.true in 
+    let p = c.requires in
+    let v = c.loop-k.invariant in
+    let t = c.loop-k-test.true in
     run_point p (run_more p v.4 c.list_sources.ensures c.next_point-odd.ensures (omega (arith, t)) v.3 c.put.ensures c.totals_with-half.ensures) c.list_sources.ensures v.4.same
 
 pub totals_with-totals-requires : goal.totals_with-totals-requires
 totals_with-totals-requires c =
-    let p = c.requires in 
-    let v = c.loop-k.invariant in 
-    let t = c.loop-k-test.true in 
+    let p = c.requires in
+    let v = c.loop-k.invariant in
+    let t = c.loop-k-test.true in
     run_mean p (run_more p v.4 c.list_sources.ensures c.next_point-odd.ensures (omega (arith, t)) v.3 c.put.ensures c.totals_with-half.ensures) c.list_sources.ensures c.next_point-even.ensures (omega (arith, t))
 
 pub overflow_add-k-in-loop-k : goal.overflow_add-k-in-loop-k
 overflow_add-k-in-loop-k c =
-    let p = c.requires in 
-    let v = c.loop-k.invariant in 
-    let t = c.loop-k-test.true in 
+    let p = c.requires in
+    let v = c.loop-k.invariant in
+    let t = c.loop-k-test.true in
     omega (arith, t, p.rows)
 
 pub put-requires-in-loop-k : goal.put-requires-in-loop-k
 put-requires-in-loop-k c =
-    let p = c.requires in 
-    let v = c.loop-k.invariant in 
-    let t = c.loop-k-test.true in 
-    let d = c.put.ensures in 
+    let p = c.requires in
+    let v = c.loop-k.invariant in
+    let t = c.loop-k-test.true in
+    let d = c.put.ensures in
     (omega (arith, t, v.1, p.pmf_room, put_pmf d), omega (arith, t, v.2, p.survival_room, put_survival d))
 
 pub overflow_add-k-in-loop-k-2 : goal.overflow_add-k-in-loop-k-2
 overflow_add-k-in-loop-k-2 c =
-    let p = c.requires in 
-    let v = c.loop-k.invariant in 
-    let t = c.loop-k-test.true in 
+    let p = c.requires in
+    let v = c.loop-k.invariant in
+    let t = c.loop-k-test.true in
     omega (arith, t, p.rows)
 
 pub loop-k-smaller : goal.loop-k-smaller
 loop-k-smaller c =
-    let p = c.requires in 
-    let v = c.loop-k.invariant in 
-    let t = c.loop-k-test.true in 
+    let p = c.requires in
+    let v = c.loop-k.invariant in
+    let t = c.loop-k-test.true in
     omega (arith, t)
 
 pub loop-k-preserved : goal.loop-k-preserved
 loop-k-preserved c =
-    let p = c.requires in 
-    let v = c.loop-k.invariant in 
-    let t = c.loop-k-test.true in 
+    let p = c.requires in
+    let v = c.loop-k.invariant in
+    let t = c.loop-k-test.true in
     let s = run_more p v.4 c.list_sources.ensures c.next_point-odd.ensures (omega (arith, t)) v.3 c.put.ensures c.totals_with-half.ensures in (
       omega (arith, t),
       put_pmf c.put-in-loop-k.ensures ∙ put_pmf c.put.ensures ∙ v.1,
@@ -133,56 +93,34 @@ loop-k-preserved c =
       run_two p c.loop-k.k (run_more p s c.list_sources.ensures c.next_point-even.ensures (omega (arith, t)) v.4.same c.put-in-loop-k.ensures c.totals_with-totals.ensures),
     )
 
--- auto slice_bounds-next_point-end-then-k-horizon
-
--- auto slice_bounds-next_point-end-then-k-horizon-2
-
--- auto slice_bounds-next_point-end-then-k-horizon-3
-
--- auto slice_bounds-next_point-end-then-k-horizon-4
-
--- auto slice_bounds-next_point-end-then-k-horizon-5
-
--- auto slice_bounds-next_point-end-then-k-horizon-6
-
--- auto slice_bounds-next_point-end-then-k-horizon-7
-
 pub next_point-last-requires : goal.next_point-last-requires
 next_point-last-requires c =
-    let p = c.requires in 
-    let v = c.loop-k.invariant in 
+    let p = c.requires in
+    let v = c.loop-k.invariant in
     run_point p v.4 c.list_sources.ensures v.3
 
 pub totals_with-all-requires : goal.totals_with-all-requires
 totals_with-all-requires c =
-    let p = c.requires in 
-    let v = c.loop-k.invariant in 
+    let p = c.requires in
+    let v = c.loop-k.invariant in
     run_mean p v.4 c.list_sources.ensures c.next_point-last.ensures v.0
 
 pub put-requires-then-k-horizon : goal.put-requires-then-k-horizon
 put-requires-then-k-horizon c =
-    let p = c.requires in 
-    let v = c.loop-k.invariant in 
-    let t = c.if-k-horizon.true in 
+    let p = c.requires in
+    let v = c.loop-k.invariant in
+    let t = c.if-k-horizon.true in
     (omega (arith, t, v.1, p.pmf_room), omega (arith, t, v.2, p.survival_room))
-
--- auto shape_of-pmf-then-k-horizon
-
--- auto shape_of-survival-then-k-horizon
 
 pub returns-then-k-horizon : goal.returns-then-k-horizon
 returns-then-k-horizon c =
-    let p = c.requires in 
-    let v = c.loop-k.invariant in 
-    let t = c.if-k-horizon.true in 
+    let p = c.requires in
+    let v = c.loop-k.invariant in
+    let t = c.if-k-horizon.true in
     run_done p (omega (arith, t, c.loop-k-test.false)) (run_more p v.4 c.list_sources.ensures c.next_point-last.ensures t v.3 c.put-then-k-horizon.ensures c.totals_with-all.ensures)
-
--- auto shape_of-pmf
-
--- auto shape_of-survival
 
 pub returns : goal.returns
 returns c =
-    let p = c.requires in 
-    let v = c.loop-k.invariant in 
+    let p = c.requires in
+    let v = c.loop-k.invariant in
     run_done p (omega arith) v.4

@@ -6,19 +6,9 @@ use Rattle.rules.specs.Bounds.{max_rules}
 use Rattle.rule_lines.specs.Rules.{pushed}
 use Rattle.rule_lines.proofs.rule_lines.push.Goals as goal
 
--- auto overflow_cast-rules
-
--- auto offset_bounds-rules-len
-
--- auto bounds-rules-len
-
--- auto overflow_add-result
-
 pub returns-then-len-lt-MAX_RULES : goal.returns-then-len-lt-MAX_RULES
 unfolding pushed
 returns-then-len-lt-MAX_RULES c = rw (lt-leb max_rules c.args.list.len (omega arith))
-
--- auto overflow_add-result-2
 
 pub returns : goal.returns
 unfolding pushed

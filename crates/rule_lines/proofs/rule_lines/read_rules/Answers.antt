@@ -8,14 +8,8 @@ use Rattle.rule_lines.specs.RuleTurnLaws.{HoldsRules, holds_start, holds_few, ru
 use Rattle.rule_lines.proofs.Else.{else_unreadable}
 use Rattle.rule_lines.proofs.rule_lines.read_rules.Goals as goal
 
--- auto no_rules-list-requires
-
 pub loop-k-init : goal.loop-k-init
 loop-k-init c = holds_start _ _ _ c.no_rules-list.ensures
-
--- auto rule_line-found-requires
-
--- auto enum_told-1
 
 pub overflow_add-result : goal.overflow_add-result
 overflow_add-result c = omega (arith, holds_few c.loop-k.invariant)
@@ -25,8 +19,6 @@ returns-in-Absent c =
     let a = rule_absent _ _ (sym c.rule_line-found.ensures ∙ c.in-Absent.is) in
     holds_done c.loop-k.invariant _ a.0 a.1
 
--- auto enum_known-found
-
 pub overflow_add-result-in_default-found : goal.overflow_add-result-in_default-found
 overflow_add-result-in_default-found c = omega (arith, holds_few c.loop-k.invariant)
 
@@ -35,11 +27,9 @@ overflow_add-result-in_default-found-2 c = omega (arith, holds_few c.loop-k.inva
 
 pub returns-in_default-found : goal.returns-in_default-found
 returns-in_default-found c =
-    let bad = else_unreadable _ c.in_default.in_default-own.keys2 c.in_default-found.in_default-found-own.keys2 in
+    let bad = else_unreadable c.rule_line-found.result c.in_default.not-Absent c.in_default-found.not-Rule in
     let a = rule_unreadable _ _ (sym c.rule_line-found.ensures ∙ bad) in
     holds_refused c.loop-k.invariant _ a.0 a.1.0 a.1.1
-
--- auto new-requires
 
 pub push-list-requires : goal.push-list-requires
 push-list-requires c = omega (arith, holds_few c.loop-k.invariant)

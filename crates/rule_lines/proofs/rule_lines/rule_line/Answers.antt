@@ -4,21 +4,9 @@ use mathlib.Core.Path.{sym, ◌∙◌}
 use Rattle.rule_lines.specs.RuleTurnLaws.{rule_given, rule_not_begun, rule_begun}
 use Rattle.rule_lines.proofs.rule_lines.rule_line.Goals as goal
 
--- auto line_at-line-requires
-
--- auto enum_known-behind
-
 pub returns-in-At : goal.returns-in-At
 returns-in-At c =
     rule_given _ _ c.line_at-line.ensures c.in-At.is
-
--- auto enum_told-1
-
--- auto past-requires
-
--- auto enum_known-end
-
--- auto enum_told-in_default-past
 
 pub returns-in_default-past : goal.returns-in_default-past
 returns-in_default-past c =

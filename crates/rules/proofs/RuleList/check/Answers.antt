@@ -26,36 +26,24 @@ module _ (l : RuleList) where
   unfolding check_of
   decides e = rw e
 
--- auto within-requires
-
 pub returns-then-not-within : goal.returns-then-not-within
 returns-then-not-within c =
-    let len = c.within in 
+    let len = c.within in
     sym (refuses c.args.self (sym len.ensures ∙ not-true len.result c.if-not-within.true-raw))
 
 pub loop-i-init : goal.loop-i-init
 loop-i-init c =
-    let len = c.within in 
-    let n = c.args.self.len in 
+    let len = c.within in
+    let n = c.args.self.len in
     let e : n - 0 ≡ n = omega arith in
     let p = between min_rules max_rules n (sym len.ensures ∙ not-false len.result c.if-not-within.false-raw) in
     (omega arith, p.1, rw e)
 
--- auto overflow_cast-rule
-
--- auto offset_bounds-rules-i
-
--- auto bounds-rules-i
-
--- auto check-found-requires
-
--- auto enum_told-1
-
 pub returns-in-Refused : goal.returns-in-Refused
 returns-in-Refused c =
-    let len = c.within in 
-    let l = c.args.self in 
-    let a = c.check-found.result in 
+    let len = c.within in
+    let l = c.args.self in
+    let a = c.check-found.result in
     let later = check_rules (c.loop-i.i + 1) (rules_from (l.len - (c.loop-i.i + 1)) (c.loop-i.i + 1) l.rules) in
     sym (
     decides l (sym len.ensures ∙ not-false len.result c.if-not-within.false-raw)
@@ -64,15 +52,9 @@ returns-in-Refused c =
     ∙ ap (λ (x : Checked). or_else x later) (sym c.check-found.ensures)
     ∙ is_refused (tag_of the_type) refl a later c.in-Refused.in-Refused-own.keys1)
 
--- auto enum_told-in_default
-
--- auto overflow_add-i
-
--- auto loop-i-smaller
-
 pub loop-i-preserved : goal.loop-i-preserved
 loop-i-preserved c =
-    let l = c.args.self in 
+    let l = c.args.self in
     let later = check_rules (c.loop-i.i + 1) (rules_from (l.len - (c.loop-i.i + 1)) (c.loop-i.i + 1) l.rules) in (
       omega arith,
       c.loop-i.invariant.1,
@@ -84,8 +66,8 @@ loop-i-preserved c =
 
 pub returns : goal.returns
 returns c =
-    let len = c.within in 
-    let l = c.args.self in 
+    let len = c.within in
+    let l = c.args.self in
     sym (
     decides l (sym len.ensures ∙ not-false len.result c.if-not-within.false-raw)
     ∙ c.loop-i.invariant.2

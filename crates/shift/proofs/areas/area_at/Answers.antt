@@ -4,10 +4,6 @@ use mathlib.Core.Path.{refl}
 use Rattle.shift.specs.Area.{area_at, areas}
 use Rattle.shift.proofs.areas.area_at.Goals as goal
 
--- auto offset_bounds-z
-
--- auto bounds-z
-
 pub returns : goal.returns
 unfolding area_at areas
 returns c = refl

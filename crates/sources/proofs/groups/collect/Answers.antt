@@ -9,25 +9,11 @@ use Rattle.sources.proofs.groups.collect.Goals as goal
 pub loop-s-init : goal.loop-s-init
 loop-s-init c = (omega arith, search collect_start)
 
--- auto overflow_mul-s
-
--- auto overflow_add-s
-
--- auto offset_bounds-moves-s
-
--- auto bounds-moves-s
-
 pub take-e-requires : goal.take-e-requires
 take-e-requires c = search collect_can
 
--- auto overflow_add-s-in-loop-s
-
--- auto loop-s-smaller
-
 pub loop-s-preserved : goal.loop-s-preserved
 loop-s-preserved c = (omega arith, search collect_more)
-
--- auto shape_of-sources
 
 pub returns : goal.returns
 returns c = search collect_done

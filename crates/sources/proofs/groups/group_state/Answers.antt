@@ -10,25 +10,11 @@ use Rattle.sources.proofs.groups.group_state.Goals as goal
 pub loop-z-init : goal.loop-z-init
 loop-z-init c = (omega arith, search state_start)
 
--- auto offset_bounds-weights-z
-
--- auto bounds-weights-z
-
 pub group_zone-g-requires : goal.group_zone-g-requires
 group_zone-g-requires c = search state_can
 
--- auto overflow_add-z
-
--- auto loop-z-smaller
-
 pub loop-z-preserved : goal.loop-z-preserved
 loop-z-preserved c = (omega arith, search state_more)
-
--- auto shape_of-sources
-
--- auto shape_of-firsts
-
--- auto shape_of-shares
 
 pub returns : goal.returns
 returns c = search state_done

@@ -6,8 +6,6 @@ use native.Mathlib.Omega.{arith}
 use borrow.Author.Rules.{rules}
 use Rattle.sources.proofs.groups.take.Goals as goal
 
--- auto short-requires
-
 pub offset_bounds-sources-e : goal.offset_bounds-sources-e
 offset_bounds-sources-e c = let h : c.args.e < length c.args.sources.now = search take_room in omega arith
 
@@ -16,8 +14,6 @@ bounds-sources-e c = search take_room
 
 pub overflow_add-result : goal.overflow_add-result
 overflow_add-result c = let h : c.args.e < length c.args.sources.now = search take_room in omega arith
-
--- auto shape_of-sources-then-entry-t
 
 pub returns-then-entry-t : goal.returns-then-entry-t
 returns-then-entry-t c = search take_more

@@ -11,25 +11,11 @@ use Rattle.sources.proofs.marks.mark.Goals as goal
 pub loop-k-init : goal.loop-k-init
 loop-k-init c = (refl, search mark_start)
 
--- auto overflow_mul-n
-
--- auto offset_bounds-moves-k
-
--- auto bounds-moves-k
-
--- auto index-requires
-
 pub set_mark-requires : goal.set_mark-requires
 set_mark-requires c = search mark_can
 
--- auto overflow_add-k
-
--- auto loop-k-smaller
-
 pub loop-k-preserved : goal.loop-k-preserved
 loop-k-preserved c = (search rules, mark_more c.index.ensures refl c.loop-k.invariant.1 c.set_mark.ensures)
-
--- auto shape_of-marks
 
 pub returns : goal.returns
 returns c = search mark_done

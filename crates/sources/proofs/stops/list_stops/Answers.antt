@@ -8,42 +8,8 @@ use Rattle.sources.specs.StopsLaws.{stops_start, stops_more, stops_done}
 use borrow.Author.Rules.{rules}
 use Rattle.sources.proofs.stops.list_stops.Goals as goal
 
--- auto short-requires
-
--- auto offset_bounds-stops-n
-
--- auto bounds-stops-n
-
 pub loop-t-init : goal.loop-t-init
 loop-t-init c = (omega arith, search rules, search stops_start)
-
--- auto overflow_sub-t
-
--- auto offset_bounds-groups-t
-
--- auto bounds-groups-t
-
--- auto overflow_add-t
-
--- auto offset_bounds-groups-t-in-loop-t
-
--- auto bounds-groups-t-in-loop-t
-
--- auto short-requires-in-loop-t
-
--- auto overflow_add-t-in-loop-t
-
--- auto offset_bounds-stops-t
-
--- auto bounds-stops-t
-
--- auto stop_of-requires
-
--- auto offset_bounds-stops-t-in-loop-t
-
--- auto bounds-stops-t-in-loop-t
-
--- auto loop-t-smaller
 
 pub loop-t-preserved : goal.loop-t-preserved
 loop-t-preserved c =
@@ -51,7 +17,7 @@ loop-t-preserved c =
 
 pub shape_of-stops : goal.shape_of-stops
 shape_of-stops c =
-    let a = c.args in 
+    let a = c.args in
     c.loop-t.invariant.1 ∙ length-set a.stops.now a.n c.short.result
 
 pub returns : goal.returns

@@ -12,28 +12,8 @@ use Rattle.sources.proofs.zones.alike.Goals as goal
 pub loop-s-init : goal.loop-s-init
 loop-s-init c = (omega arith, below_none _)
 
--- auto overflow_mul-s
-
--- auto overflow_add-s
-
--- auto offset_bounds-moves-s
-
--- auto bounds-moves-s
-
--- auto overflow_mul-s-in-loop-s
-
--- auto overflow_add-s-in-loop-s
-
--- auto offset_bounds-moves-s-in-loop-s
-
--- auto bounds-moves-s-in-loop-s
-
 pub returns-then-moves-s : goal.returns-then-moves-s
 returns-then-moves-s c = search alike_not
-
--- auto overflow_add-s-in-loop-s-2
-
--- auto loop-s-smaller
 
 pub loop-s-preserved : goal.loop-s-preserved
 loop-s-preserved c = (omega arith, below_more _ _ c.loop-s.invariant.1 c.if-moves-s.false)

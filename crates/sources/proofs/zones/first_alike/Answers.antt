@@ -4,18 +4,8 @@ use Rattle.sources.specs.AlikeZonesLaws.{alike_found, alike_self}
 use borrow.Author.Rules.{rules}
 use Rattle.sources.proofs.zones.first_alike.Goals as goal
 
--- auto loop-a-init
-
--- auto alike-requires
-
 pub returns-then-alike : goal.returns-then-alike
 returns-then-alike c = search alike_found
-
--- auto overflow_add-a
-
--- auto loop-a-smaller
-
--- auto loop-a-preserved
 
 pub returns : goal.returns
 returns c = search alike_self

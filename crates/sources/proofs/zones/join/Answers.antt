@@ -12,35 +12,19 @@ use Rattle.sources.proofs.zones.join.Goals as goal
 pub loop-z-init : goal.loop-z-init
 loop-z-init c = (omega arith, search join_start)
 
--- auto first_alike-a-requires
-
--- auto offset_bounds-joined-a
-
 pub bounds-joined-a : goal.bounds-joined-a
 bounds-joined-a c = search join_place
-
--- auto offset_bounds-weights-z
-
--- auto bounds-weights-z
 
 pub overflow_add-joined : goal.overflow_add-joined
 overflow_add-joined c =
     let h : get_or c.loop-z.joined c.first_alike-a.result 0 + get_or c.args.weights.now c.loop-z.z 0 ≤ weight_total = search join_room in
     omega arith
 
--- auto offset_bounds-joined-a-in-loop-z
-
 pub bounds-joined-a-in-loop-z : goal.bounds-joined-a-in-loop-z
 bounds-joined-a-in-loop-z c = search (rules, join_place)
 
--- auto overflow_add-z
-
--- auto loop-z-smaller
-
 pub loop-z-preserved : goal.loop-z-preserved
 loop-z-preserved c = (omega arith, search join_more)
-
--- auto shape_of-joined
 
 pub returns : goal.returns
 returns c = search join_done

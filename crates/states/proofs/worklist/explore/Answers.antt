@@ -10,8 +10,6 @@ use Rattle.states.specs.ExploreLaws.{Exploring, explore_start, explore_done, exp
 use Rattle.states.specs.VisitLaws.{visit_can}
 use Rattle.states.proofs.worklist.explore.Goals as goal
 
--- auto bounds-found-0
-
 pub loop-k-init : goal.loop-k-init
 loop-k-init c = explore_start _ c.args.found.now _ _ c.requires.found_room c.requires.entries_room (omega arith)
 
@@ -23,23 +21,23 @@ visit-n-requires c = visit_can c.requires c.loop-k.invariant (omega arith)
 
 pub shape_of-found-then-n-gt-MAX_STATES : goal.shape_of-found-then-n-gt-MAX_STATES
 shape_of-found-then-n-gt-MAX_STATES c =
-    let v = c.visit-n in 
-    let h = c.loop-k.invariant in 
-    let p = c.requires in 
-    v.auto.1.0 ∙ h.lf ∙ sym p.found_room
+    let v = c.visit-n in
+    let h = c.loop-k.invariant in
+    let p = c.requires in
+    v.auto.found ∙ h.lf ∙ sym p.found_room
 
 pub shape_of-moves-then-n-gt-MAX_STATES : goal.shape_of-moves-then-n-gt-MAX_STATES
 shape_of-moves-then-n-gt-MAX_STATES c =
-    let v = c.visit-n in 
-    let h = c.loop-k.invariant in 
-    let p = c.requires in 
-    v.auto.1.1.0 ∙ h.lm ∙ sym p.entries_room
+    let v = c.visit-n in
+    let h = c.loop-k.invariant in
+    let p = c.requires in
+    v.auto.moves ∙ h.lm ∙ sym p.entries_room
 
 pub returns-then-n-gt-MAX_STATES : goal.returns-then-n-gt-MAX_STATES
 returns-then-n-gt-MAX_STATES c =
-    let v = c.visit-n in 
-    let h = c.loop-k.invariant in 
-    explore_over _ h v.ensures (omega arith) v.auto.1.0 v.auto.1.1.0 (omega arith)
+    let v = c.visit-n in
+    let h = c.loop-k.invariant in
+    explore_over _ h v.ensures (omega arith) v.auto.found v.auto.moves (omega arith)
 
 pub overflow_add-k : goal.overflow_add-k
 overflow_add-k c = omega arith
@@ -49,9 +47,9 @@ loop-k-smaller c = omega arith
 
 pub loop-k-preserved : goal.loop-k-preserved
 loop-k-preserved c =
-    let v = c.visit-n in 
-    let h = c.loop-k.invariant in 
-    explore_more _ h v.ensures (omega arith) v.auto.1.0 v.auto.1.1.0 (omega arith)
+    let v = c.visit-n in
+    let h = c.loop-k.invariant in
+    explore_more _ h v.ensures (omega arith) v.auto.found v.auto.moves (omega arith)
 
 pub shape_of-found : goal.shape_of-found
 shape_of-found c = c.loop-k.invariant.lf ∙ sym c.requires.found_room

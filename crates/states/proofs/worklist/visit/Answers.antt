@@ -1,5 +1,4 @@
 -- `visit` meets its contract: each return is one case of the move and of the state's index.
--- the match's tag as the constructor
 use Prim.Native.Nat.{ℕ}
 use mathlib.Core.Path.{◌≡◌, refl, sym, ◌∙◌}
 use native.Mathlib.Omega.{arith}
@@ -12,71 +11,26 @@ use Rattle.states.specs.ExploreLaws.{index_small}
 use Rattle.states.specs.VisitLaws.{visit_signal, visit_known, visit_new, visit_over}
 use Rattle.states.proofs.worklist.visit.Goals as goal
 
+-- the match's tag as the constructor
 is_signal_lem : (m : Move) → tag_of the_type m ≡ 1 → (mask : ℕ) × (m ≡ Signal mask)
 is_signal_lem (Quiet t) h = absurd (omega arith)
 is_signal_lem (Signal mask) h = (mask, refl)
 
--- auto offset_bounds-found-k
-
--- auto bounds-found-k
-
--- auto overflow_cast-zone
-
--- auto move_of-requires
-
--- auto enum_told-1
-
--- auto overflow_cast-moves
-
--- auto offset_bounds-moves-k
-
--- auto bounds-moves-k
-
--- auto enum_known-next
-
--- auto index_of-index-requires
-
 pub overflow_cast-moves-in-Quiet : goal.overflow_cast-moves-in-Quiet
-overflow_cast-moves-in-Quiet c = omega (arith, index_small _ _ _ (index-of-requires ?PLACE:After-known_told c.index_of-index.lifetimes) c.index_of-index.ensures)
-
--- auto offset_bounds-moves-k-in-Quiet
-
--- auto bounds-moves-k-in-Quiet
-
--- auto offset_bounds-found-n
-
--- auto bounds-found-n
-
--- auto overflow_add-result
-
--- auto overflow_add-result-else-n-lt-MAX_STATES
-
--- auto shape_of-moves-in-Signal
+overflow_cast-moves-in-Quiet c = omega (arith, index_small _ _ _ (omega arith) c.index_of-index.ensures)
 
 pub returns-in-Signal : goal.returns-in-Signal
 returns-in-Signal c =
     let s = is_signal_lem c.move_of.result c.in-Signal.in-Signal-own.keys1 in
     visit_signal c.requires s.0 (sym c.move_of.ensures ∙ s.1)
 
--- auto shape_of-found-then-index-n
-
--- auto shape_of-moves-then-index-n
-
 pub returns-then-index-n : goal.returns-then-index-n
 returns-then-index-n c =
     visit_known c.requires (sym c.move_of.ensures ∙ c.in-Quiet.is) c.index_of-index.ensures (omega arith)
 
--- auto shape_of-found-then-n-lt-MAX_STATES
-
--- auto shape_of-moves-then-n-lt-MAX_STATES
-
 pub returns-then-n-lt-MAX_STATES : goal.returns-then-n-lt-MAX_STATES
 returns-then-n-lt-MAX_STATES c =
     visit_new c.requires (sym c.move_of.ensures ∙ c.in-Quiet.is) c.index_of-index.ensures (omega arith) (omega arith)
-
--- auto shape_of-found-else-n-lt-MAX_STATES
-
--- auto shape_of-moves-else-n-lt-MAX_STATES
 
 pub returns-else-n-lt-MAX_STATES : goal.returns-else-n-lt-MAX_STATES
 returns-else-n-lt-MAX_STATES c =

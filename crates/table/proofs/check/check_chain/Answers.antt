@@ -20,7 +20,9 @@ explored_chain-requires c = record {
     }
 
 pub returns-in-Refused : goal.returns-in-Refused
-returns-in-Refused c = let a = c.args in (bad_rules a.list a.weights a.horizon (sym c.check-checked.ensures ∙ c.in-Refused.is), refl)
+returns-in-Refused c =
+    let a = c.args in
+    record { checked = bad_rules a.list a.weights a.horizon (sym c.check-checked.ensures ∙ c.in-Refused.is); kept = refl }
 
 -- auto shape_of-moves
 

@@ -13,28 +13,28 @@ use Rattle.table.proofs.check.explored_chain.Goals as goal
 
 pub returns-then-weight_sum-ne-WEIGHT_TOTAL : goal.returns-then-weight_sum-ne-WEIGHT_TOTAL
 returns-then-weight_sum-ne-WEIGHT_TOTAL c =
-    let p = c.requires in 
-    let a = c.args in 
+    let p = c.requires in
+    let a = c.args in
     rw c.refused.ensures
-    (bad_weights_lem a.list a.t2 a.horizon p.0 (λ e. c.if-weight_sum-ne-WEIGHT_TOTAL.true (c.weight_sum.ensures ∙ e)), refl)
+    (record { checked = bad_weights_lem a.list a.weights a.horizon p.list_value (λ e. c.if-weight_sum-ne-WEIGHT_TOTAL.true (c.weight_sum.ensures ∙ e)); kept = refl })
 
 -- auto refused-requires-then-horizon-lt-MIN_HORIZON
 
 pub returns-then-horizon-lt-MIN_HORIZON : goal.returns-then-horizon-lt-MIN_HORIZON
 returns-then-horizon-lt-MIN_HORIZON c =
-    let p = c.requires in 
-    let a = c.args in 
+    let p = c.requires in
+    let a = c.args in
     let weights = sym c.weight_sum.ensures ∙ c.if-weight_sum-ne-WEIGHT_TOTAL.false in
-    rw c.refused-then-horizon-lt-MIN_HORIZON.ensures (no_horizon a.list a.t2 a.horizon p.0 weights (omega arith), refl)
+    rw c.refused-then-horizon-lt-MIN_HORIZON.ensures (record { checked = no_horizon a.list a.weights a.horizon p.list_value weights (omega arith); kept = refl })
 
 -- auto refused-requires-then-horizon-gt-MAX_HORIZON
 
 pub returns-then-horizon-gt-MAX_HORIZON : goal.returns-then-horizon-gt-MAX_HORIZON
 returns-then-horizon-gt-MAX_HORIZON c =
-    let p = c.requires in 
-    let a = c.args in 
+    let p = c.requires in
+    let a = c.args in
     let weights = sym c.weight_sum.ensures ∙ c.if-weight_sum-ne-WEIGHT_TOTAL.false in
-    rw c.refused-then-horizon-gt-MAX_HORIZON.ensures (long_horizon a.list a.t2 a.horizon p.0 weights (omega arith) (omega arith), refl)
+    rw c.refused-then-horizon-gt-MAX_HORIZON.ensures (record { checked = long_horizon a.list a.weights a.horizon p.list_value weights (omega arith) (omega arith); kept = refl })
 
 pub chain_moves-requires : goal.chain_moves-requires
 chain_moves-requires c = record {
@@ -46,8 +46,11 @@ chain_moves-requires c = record {
 
 pub returns : goal.returns
 returns c =
-    let p = c.requires in 
-    let a = c.args in 
+    let p = c.requires in
+    let a = c.args in
     let weights = sym c.weight_sum.ensures ∙ c.if-weight_sum-ne-WEIGHT_TOTAL.false in
-    let made = c.chain_moves in 
-    moves_made a.list a.t2 a.horizon p.0 weights c.if-horizon-lt-MIN_HORIZON.false c.if-horizon-gt-MAX_HORIZON.false a.moves.now made.new.1.0 made.result made.ensures
+    let made = c.chain_moves in
+    record {
+      checked = moves_made a.list a.weights a.horizon p.list_value weights c.if-horizon-lt-MIN_HORIZON.false c.if-horizon-gt-MAX_HORIZON.false made.new.moves made.result made.ensures.made;
+      kept = made.ensures.kept;
+    }

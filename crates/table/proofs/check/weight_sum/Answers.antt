@@ -11,19 +11,11 @@ use Rattle.table.proofs.check.weight_sum.Goals as goal
 pub loop-z-init : goal.loop-z-init
 loop-z-init c = (omega arith, sym (sum_zero (at c.args.weights.now)), omega arith)
 
--- auto offset_bounds-weights-z
-
--- auto bounds-weights-z
-
 pub overflow_cast-total : goal.overflow_cast-total
 overflow_cast-total c = omega (arith, c.shared_slice_known-1.given c.loop-z.z)
 
 pub overflow_add-total : goal.overflow_add-total
 overflow_add-total c = omega (arith, c.shared_slice_known-1.given c.loop-z.z)
-
--- auto overflow_add-z
-
--- auto loop-z-smaller
 
 pub loop-z-preserved : goal.loop-z-preserved
 loop-z-preserved c =

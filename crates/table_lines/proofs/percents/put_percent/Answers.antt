@@ -15,11 +15,9 @@ put_bracket-b-requires c = omega (arith, field_short)
 pub put_byte-requires : goal.put_byte-requires
 put_byte-requires c = omega (arith, field_short)
 
--- auto shape_of-out
-
 pub returns : goal.returns
 unfolding percent_line
 returns c = record {
-      wrote = search then;
-      upper_bound = omega (arith, field_short);
-    }
+  wrote = search then;
+  upper_bound = omega (arith, field_short);
+}

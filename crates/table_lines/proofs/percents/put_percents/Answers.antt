@@ -5,18 +5,6 @@ use Rattle.table_lines.specs.PercentLine.{percent_lines}
 use borrow.Author.Rules.{rules}
 use Rattle.table_lines.proofs.percents.put_percents.Goals as goal
 
--- auto put_percent-a-requires
-
--- auto put_percent-b-requires
-
--- auto put_percent-c-requires
-
--- auto put_percent-d-requires
-
--- auto put_percent-requires
-
--- auto shape_of-out
-
 pub returns : goal.returns
 unfolding percent_lines
 returns c =

@@ -5,18 +5,6 @@ use Rattle.table_lines.specs.TableLines.{table_bytes}
 use borrow.Author.Rules.{rules}
 use Rattle.table_lines.proofs.tables.put_table.Goals as goal
 
--- auto put_standings-a-requires
-
--- auto put_header-b-requires
-
--- auto put_rows-c-requires
-
--- auto put_arl-d-requires
-
--- auto put_percents-requires
-
--- auto shape_of-out
-
 pub returns : goal.returns
 unfolding table_bytes
 returns c =

@@ -11,27 +11,9 @@ use Rattle.text.proofs.lines.fields_from.Goals as goal
 pub loop-i-init : goal.loop-i-init
 loop-i-init c = (search rules, refl, clean_start, refl)
 
--- auto bounds-letters-i
-
--- auto value-requires
-
--- auto enum_known-x
-
--- auto enum_told-1
-
--- auto no_line-requires
-
 pub returns-in_default : goal.returns-in_default
 returns-in_default c =
     c.no_line.ensures ∙ sym (no_value _ _ _ _ _ c.loop-i-test.true (sym c.value.ensures ∙ c.in_default.is)) ∙ c.loop-i.invariant.3
-
--- auto offset_bounds-values-i
-
--- auto bounds-values-i
-
--- auto overflow_add-i
-
--- auto loop-i-smaller
 
 pub loop-i-preserved : goal.loop-i-preserved
 loop-i-preserved c =
@@ -42,19 +24,11 @@ loop-i-preserved c =
       sym (next_value _ _ _ _ _ c.loop-i-test.true _ _ (sym c.value.ensures ∙ c.in-Value.is) (search rules)) ∙ c.loop-i.invariant.3,
     )
 
--- auto past-requires
-
--- auto enum_known-next
-
--- auto enum_told-in_default-past
-
--- auto no_line-requires-in_default-past
-
 pub returns-in_default-past : goal.returns-in_default-past
 returns-in_default-past c =
     c.no_line-in_default-past.ensures ∙ sym (line_goes_on _ _ _ _ _ c.loop-i-test.false (sym c.past.ensures ∙ c.in_default-past.is)) ∙ c.loop-i.invariant.3
 
 pub returns : goal.returns
 returns c =
-    let i = c.loop-i.invariant in 
+    let i = c.loop-i.invariant in
     sym (line_ends _ _ _ _ _ c.loop-i-test.false _ (sym c.past.ensures ∙ c.in-At.is) i.1 i.2) ∙ i.3

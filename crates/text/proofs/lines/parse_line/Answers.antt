@@ -5,23 +5,13 @@ use Rattle.text.specs.LineRead.{fields_of}
 use Rattle.text.specs.LineReadLaws.{line_word, line_no_word}
 use Rattle.text.proofs.lines.parse_line.Goals as goal
 
--- auto past-requires
-
--- auto enum_known-p
-
--- auto enum_told-1
-
--- auto no_line-requires
-
 pub returns-in_default : goal.returns-in_default
 returns-in_default c =
-    let t = c.args in 
+    let t = c.args in
     c.no_line.ensures
     ∙ line_no_word t.word.now (fields_of t.letters.now) t.text.now t.at (sym c.past.ensures ∙ c.in_default.is)
 
--- auto fields_from-requires
-
 pub returns : goal.returns
 returns c =
-    let t = c.args in 
+    let t = c.args in
     c.fields_from.ensures ∙ line_word t.word.now (fields_of t.letters.now) t.text.now t.at _ (sym c.past.ensures ∙ c.in-At.is)

@@ -7,12 +7,8 @@ use Rattle.grammar.specs.LineValues.{number, signed}
 use Rattle.text.specs.LineRead.{code_at}
 use Rattle.text.proofs.lines.value.Goals as goal
 
--- auto signed_field-requires
-
 pub returns-then-letter-eq115 : goal.returns-then-letter-eq115
 returns-then-letter-eq115 c = rw (eq-eqb c.args.letter 115 c.if-letter-eq115.true) c.signed_field.ensures
-
--- auto field-requires
 
 pub returns : goal.returns
 returns c = rw (ne_eqb c.args.letter 115 c.if-letter-eq115.false) c.field.ensures

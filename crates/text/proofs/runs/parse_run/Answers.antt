@@ -10,19 +10,9 @@ use Rattle.text.proofs.runs.parse_run.Goals as goal
 pub loop-next-init : goal.loop-next-init
 loop-next-init c = run_start _ _ _ _ _ _
 
--- auto parse_line-line-requires
-
--- auto enum_known-behind
-
--- auto enum_told-1
-
 pub returns-in_default : goal.returns-in_default
 returns-in_default c =
     run_done c.loop-next.invariant c.parse_line-line.ensures c.in_default.is
-
--- auto offset_bounds-values-field
-
--- auto bounds-values-field
 
 pub one_more-below-requires : goal.one_more-below-requires
 one_more-below-requires c =

@@ -10,28 +10,18 @@ use Rattle.weights_report.proofs.weight_line.put_fields.Goals as goal
 pub loop-i-init : goal.loop-i-init
 loop-i-init c = fielded_start (omega arith)
 
--- auto offset_bounds-numbers-i
-
--- auto bounds-numbers-i
-
 pub overflow_cast-numbers : goal.overflow_cast-numbers
 overflow_cast-numbers c = omega (arith, c.shared_slice_known-in-loop-i-1.given c.loop-i.i)
 
 pub put_field-e-requires : goal.put_field-e-requires
 put_field-e-requires c =
-    let l = c.loop-i in 
+    let l = c.loop-i in
     omega (arith, field_short (c.shared_slice_known-in-loop-i-1.given l.i))
-
--- auto overflow_add-i
-
--- auto loop-i-smaller
 
 pub loop-i-preserved : goal.loop-i-preserved
 loop-i-preserved c =
-    let l = c.loop-i in 
+    let l = c.loop-i in
     fielded_more l.invariant c.loop-i-test.true (c.shared_slice_known-in-loop-i-1.given l.i) c.put_field-e.ensures
-
--- auto shape_of-out
 
 pub returns : goal.returns
 returns c = record {

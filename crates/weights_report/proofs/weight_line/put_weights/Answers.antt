@@ -14,18 +14,6 @@ use Rattle.weights_report.proofs.weight_line.put_weights.Goals as goal
 same_fields : {a b : List ℕ} {i r : ℕ} {x y : List ℕ} → x ≡ y → Wrote a i b r (fields x) → Wrote a i b r (fields y)
 same_fields e u = rw (← e) u
 
--- auto weight_array-weights-requires
-
--- auto put_bytes-a-requires
-
--- auto slice_bounds-put_fields-end
-
--- auto put_fields-b-requires
-
--- auto put_byte-requires
-
--- auto shape_of-out
-
 pub returns : goal.returns
 unfolding weight_line
 returns c =

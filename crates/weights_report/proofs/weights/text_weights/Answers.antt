@@ -17,19 +17,15 @@ text_refused t n = rw (ne_eqb t.refusal.number 0 n)
 text_read : (t : ShiftText) → t.refusal.number ≡ 0 → shift_of t.shift ≡ weights_for t
 text_read t e = rw (eq-eqb t.refusal.number 0 e)
 
--- auto shift_text-read-requires
-
 pub returns-then-refusal-ne0 : goal.returns-then-refusal-ne0
 unfolding text_weights
 returns-then-refusal-ne0 c =
-    let t = c.shift_text-read in 
+    let t = c.shift_text-read in
     text_refused t.result (λ z. omega arith) ∙ ap weights_for t.ensures
-
--- auto shift_weights-requires
 
 pub returns : goal.returns
 unfolding text_weights
 returns c =
-    let t = c.shift_text-read in 
+    let t = c.shift_text-read in
     let fits : to_z w32 (of_z w32 t.result.shift) ≡ t.result.shift = search rules in
     c.shift_weights.ensures ∙ ap shift_of fits ∙ text_read t.result (omega arith) ∙ ap weights_for t.ensures

@@ -4,11 +4,7 @@ use Rattle.write.proofs.PrintedLaws.{output_by}
 use Rattle.weights_report.specs.WeightsReport.{weights_printed}
 use Rattle.weights_report.proofs.weights.weights_output.Goals as goal
 
--- auto weights_report-answer-requires
-
--- auto put_answer-requires
-
 pub returns : goal.returns
 returns c =
-    let a = c.args in 
+    let a = c.args in
     output_by (weights_printed a.text.now) c.weights_report-answer.result c.weights_report-answer.ensures c.put_answer.ensures

@@ -5,14 +5,6 @@ use Rattle.write.proofs.PrintedLaws.{as_refused, as_written}
 use Rattle.weights_report.specs.WeightsReport.{weights_by, weights_printed}
 use Rattle.weights_report.proofs.weights.weights_report.Goals as goal
 
--- auto text_weights-answer-requires
-
--- auto enum_known-answer
-
--- auto enum_known-answer-in-Accepted-1
-
--- auto put_weights-n-requires
-
 pub returns-in-Refused : goal.returns-in-Refused
 unfolding weights_printed
 returns-in-Refused c =

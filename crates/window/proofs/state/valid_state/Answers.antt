@@ -12,36 +12,26 @@ use Rattle.window.proofs.state.valid_state.Goals as goal
 
 pub loop-i-init : goal.loop-i-init
 loop-i-init c =
-    let l = c.args.list in 
+    let l = c.args.list in
     let e : l.len - 0 ≡ l.len = omega arith in
     (omega arith, rw e c.requires.1, rw e)
 
--- auto overflow_cast-i
-
--- auto offset_bounds-rules-i
-
--- auto bounds-rules-i
-
 pub valid_window-requires : goal.valid_window-requires
 valid_window-requires c =
-    let l = c.args.list in 
+    let l = c.args.list in
     ((bounds_cons l.rules l.len c.loop-i.i (omega arith) c.loop-i.invariant.1).0, omega arith)
 
 pub returns-then-not-valid_window : goal.returns-then-not-valid_window
 returns-then-not-valid_window c =
-    let a = c.args in 
+    let a = c.args in
     sym (
     c.loop-i.invariant.2
     ∙ valid_cons a.list.rules a.list.len c.loop-i.i (omega arith) a.count c.loop-i.windows
     ∙ rw (← c.valid_window.ensures, not-true c.valid_window.result c.if-not-valid_window.true-raw))
 
--- auto overflow_add-i
-
--- auto loop-i-smaller
-
 pub loop-i-preserved : goal.loop-i-preserved
 loop-i-preserved c =
-    let a = c.args in 
+    let a = c.args in
     let h : c.loop-i.i < a.list.len = omega arith in (
       omega arith,
       (bounds_cons a.list.rules a.list.len c.loop-i.i h c.loop-i.invariant.1).1,
@@ -52,5 +42,5 @@ loop-i-preserved c =
 
 pub returns : goal.returns
 returns c =
-    let a = c.args in 
+    let a = c.args in
     sym (c.loop-i.invariant.2 ∙ valid_none a.list.rules a.list.len c.loop-i.i (omega arith) a.count c.loop-i.windows)

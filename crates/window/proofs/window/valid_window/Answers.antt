@@ -8,35 +8,19 @@ use Rattle.window.specs.Window.{max_age, live, hits_up_to}
 use borrow.Author.Rules.{rules}
 use Rattle.window.proofs.window.valid_window.Goals as goal
 
--- auto overflow_cast-k
-
--- auto hits-requires
-
 pub returns-then-k-hits : goal.returns-then-k-hits
 returns-then-k-hits c =
-    let a = c.args in 
+    let a = c.args in
     rw (le-leb a.rule.k (hits_up_to max_age a.window) (omega arith))
-
--- auto overflow_sub-rule
-
--- auto overflow_cast-rule
-
--- auto live_hits-requires
 
 pub returns-then-live_hits-window : goal.returns-then-live_hits-window
 returns-then-live_hits-window c =
-    let a = c.args in 
+    let a = c.args in
     rw (lt-leb a.rule.k (hits_up_to max_age a.window) (omega arith), ne_eqb (live a.rule.k 0 (a.rule.m - 1) a.window) a.window (λ e. omega arith))
-
--- auto oldest-requires
-
--- auto overflow_cast-result
-
--- auto overflow_shr-result
 
 pub returns : goal.returns
 returns c =
-    let a = c.args in 
+    let a = c.args in
     rw (
       lt-leb a.rule.k (hits_up_to max_age a.window) (omega arith),
       eq-eqb (live a.rule.k 0 (a.rule.m - 1) a.window) a.window (omega arith),

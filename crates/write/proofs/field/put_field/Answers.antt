@@ -4,9 +4,13 @@ use Rattle.write.specs.WroteLaws.{then}
 use Rattle.write.specs.Field.{field}
 use Rattle.write.proofs.field.put_field.Goals as goal
 
--- auto put_byte-e-requires
+pub put_byte-e-requires : goal.put_byte-e-requires
+unfolding field
+put_byte-e-requires c = search rules
 
--- auto put_number-requires
+pub put_number-requires : goal.put_number-requires
+unfolding field
+put_number-requires c = search rules
 
 pub returns : goal.returns
 unfolding field

@@ -3,9 +3,5 @@ use borrow.Author.Rules.{rules}
 use Rattle.write.specs.WroteLaws.{then}
 use Rattle.write.proofs.field.put_named.Goals as goal
 
--- auto put_bytes-e-requires
-
--- auto put_field-requires
-
 pub returns : goal.returns
 returns c = search then

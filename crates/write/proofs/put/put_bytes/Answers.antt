@@ -12,22 +12,10 @@ use Rattle.write.proofs.put.put_bytes.Goals as goal
 pub loop-i-init : goal.loop-i-init
 loop-i-init c = (search rules, refl, rw add-zero (wrote_nothing _ _ (omega arith)))
 
--- auto bounds-words-i
-
--- auto overflow_add-out
-
--- auto bounds-out-at
-
--- auto overflow_add-i
-
--- auto loop-i-smaller
-
 pub loop-i-preserved : goal.loop-i-preserved
 loop-i-preserved c =
-    let l = c.loop-i in 
+    let l = c.loop-i in
     (search rules, simp length-set l.invariant.1, wrote_next _ _ _ _ _ l.invariant.2 c.loop-i-test.true (omega arith))
-
--- auto overflow_add-result
 
 pub returns : goal.returns
 returns c = wrote_all _ _ _ _ _ c.loop-i.invariant.2 c.loop-i-test.false

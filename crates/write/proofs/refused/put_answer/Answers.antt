@@ -4,11 +4,9 @@ use borrow.Author.Rules.{rules}
 use Rattle.write.proofs.PrintedLaws.{stands_written, stands_refused}
 use Rattle.write.proofs.refused.put_answer.Goals as goal
 
--- auto put_refused-requires
-
 pub returns-in-Written : goal.returns-in-Written
 returns-in-Written c = stands_written _ c.in-Written.is
 
 pub returns-in-Refused : goal.returns-in-Refused
 returns-in-Refused c =
-    stands_refused c.in-Refused.is c.XXAfter-put_refused.Put-refused.ensures.0
+    stands_refused c.in-Refused.is c.put_refused.ensures.wrote

@@ -6,12 +6,8 @@ use Rattle.write.proofs.FieldLaws.{field_short}
 use Rattle.write.specs.Refused.{refused_line}
 use Rattle.write.proofs.refused.put_refused.Goals as goal
 
--- auto overflow_cast-refusal
-
 pub put_named-a-requires : goal.put_named-a-requires
 put_named-a-requires c = omega (arith, field_short)
-
--- auto overflow_cast-refusal-2
 
 pub put_field-b-requires : goal.put_field-b-requires
 put_field-b-requires c = omega (arith, field_short)

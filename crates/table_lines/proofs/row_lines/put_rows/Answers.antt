@@ -4,43 +4,21 @@ use Prim.Native.Nat.{◌-◌}
 use native.Mathlib.Omega.{arith}
 use Rattle.table_lines.specs.RowsWritten.{RowsWritten}
 use Rattle.table_lines.specs.RowLineLaws.{rowed_start, rowed_sum, rowed_more, rowed_done}
-use Rattle.table_lines.proofs.rows.put_rows.Goals as goal
+use Rattle.table_lines.proofs.row_lines.put_rows.Goals as goal
 
 pub loop-i-init : goal.loop-i-init
 loop-i-init c = rowed_start (omega arith)
 
--- auto offset_bounds-pmf-i
-
--- auto bounds-pmf-i
-
 pub overflow_add-cdf : goal.overflow_add-cdf
 overflow_add-cdf c =
-    let l = c.loop-i in 
+    let l = c.loop-i in
     omega (arith, rowed_sum l.invariant (omega arith))
-
--- auto overflow_add-i
-
--- auto offset_bounds-pmf-i-in-loop-i
-
--- auto bounds-pmf-i-in-loop-i
-
--- auto offset_bounds-survival-i
-
--- auto bounds-survival-i
-
--- auto put_row-e-requires
-
--- auto overflow_add-i-in-loop-i
-
--- auto loop-i-smaller
 
 pub loop-i-preserved : goal.loop-i-preserved
 loop-i-preserved c = search rowed_more
 
--- auto shape_of-out
-
 pub returns : goal.returns
 returns c = record {
-      wrote = search rowed_done;
-      upper_bound = omega arith;
-    }
+  wrote = search rowed_done;
+  upper_bound = omega arith;
+}

@@ -4,7 +4,7 @@ use native.Mathlib.Omega.{arith}
 use Rattle.write.specs.WroteLaws.{then}
 use Rattle.write.proofs.FieldLaws.{field_short}
 use Rattle.table_lines.specs.RowLine.{standings_line}
-use Rattle.table_lines.proofs.rows.put_standings.Goals as goal
+use Rattle.table_lines.proofs.row_lines.put_standings.Goals as goal
 
 pub put_named-e-requires : goal.put_named-e-requires
 put_named-e-requires c = omega (arith, field_short)
@@ -12,11 +12,9 @@ put_named-e-requires c = omega (arith, field_short)
 pub put_byte-requires : goal.put_byte-requires
 put_byte-requires c = omega (arith, field_short)
 
--- auto shape_of-out
-
 pub returns : goal.returns
 unfolding standings_line
 returns c = record {
-      wrote = search then;
-      upper_bound = omega (arith, field_short);
-    }
+  wrote = search then;
+  upper_bound = omega (arith, field_short);
+}

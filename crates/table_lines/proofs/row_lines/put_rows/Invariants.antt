@@ -4,7 +4,7 @@ use Prim.Native.Nat.{◌-◌}
 use native.Mathlib.Omega.{arith}
 use Rattle.table_lines.specs.RowsWritten.{RowsWritten}
 use Rattle.table_lines.specs.RowLineLaws.{rowed_start, rowed_sum, rowed_more, rowed_done}
-use Rattle.table_lines.proofs.rows.put_rows.Given as goal
+use Rattle.table_lines.proofs.row_lines.put_rows.Given as goal
 
 abbrev pub invariant-loop-i : goal.invariant-loop-i
 invariant-loop-i l = RowsWritten l.initial.out l.at l.h l.pmf l.survival l.out l.e l.cdf l.i

@@ -4,7 +4,7 @@ use native.Mathlib.Omega.{arith}
 use Rattle.write.specs.WroteLaws.{then}
 use Rattle.write.proofs.FieldLaws.{field_room_lem}
 use Rattle.table_lines.specs.RowLine.{arl_line}
-use Rattle.table_lines.proofs.rows.put_arl.Goals as goal
+use Rattle.table_lines.proofs.row_lines.put_arl.Goals as goal
 
 pub put_named-a-requires : goal.put_named-a-requires
 put_named-a-requires c = omega (arith, field_room_lem)
@@ -17,8 +17,6 @@ put_field-c-requires c = omega (arith, field_room_lem)
 
 pub put_byte-requires : goal.put_byte-requires
 put_byte-requires c = omega (arith, field_room_lem)
-
--- auto shape_of-out
 
 pub returns : goal.returns
 unfolding arl_line

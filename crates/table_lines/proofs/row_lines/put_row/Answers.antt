@@ -5,7 +5,7 @@ use Rattle.write.specs.WroteLaws.{then}
 use Rattle.write.specs.Field.{field}
 use Rattle.write.proofs.FieldLaws.{field_room_lem}
 use Rattle.table_lines.specs.RowLine.{row_line}
-use Rattle.table_lines.proofs.rows.put_row.Goals as goal
+use Rattle.table_lines.proofs.row_lines.put_row.Goals as goal
 
 pub put_number-a-requires : goal.put_number-a-requires
 unfolding field
@@ -26,8 +26,6 @@ put_field-d-requires c = omega (arith, field_room_lem)
 pub put_byte-requires : goal.put_byte-requires
 unfolding field
 put_byte-requires c = omega (arith, field_room_lem)
-
--- auto shape_of-out
 
 pub returns : goal.returns
 unfolding row_line field
