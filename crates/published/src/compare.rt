@@ -18,7 +18,14 @@ impl Tally {
 }
 
 // Ends a line that begins with the chart's name. Both figures are in units of the last decimal place that is printed in the source.
-pub fn figure(out: &impl Print, tally: Tally, kind: &[u8], ours: u64, published: u64, places: u32) -> io::Result<Tally> {
+pub fn figure(
+    out: &impl Print,
+    tally: Tally,
+    kind: &[u8],
+    ours: u64,
+    published: u64,
+    places: u32,
+) -> io::Result<Tally> {
     decimal::print(out, kind, ours, places)?;
     decimal::print(out, b" published ", published, places)?;
     if ours == published {

@@ -69,7 +69,15 @@ fn name(out: &impl Print, table: usize) -> io::Result<()> {
 }
 
 // One line of row k.
-fn line(out: &impl Print, tally: Tally, k: usize, kind: &[u8], ours: u64, published: u64, places: u32) -> io::Result<Tally> {
+fn line(
+    out: &impl Print,
+    tally: Tally,
+    k: usize,
+    kind: &[u8],
+    ours: u64,
+    published: u64,
+    places: u32,
+) -> io::Result<Tally> {
     name(out, k / weights001::SETTINGS)?;
     let setting = weights001::setting(k % weights001::SETTINGS);
     weights001::print(out, setting[0], setting[1], setting[2])?;
@@ -90,7 +98,13 @@ fn for_lambda(entry: [u64; 12], lambda: usize) -> [u64; 4]
     [entry[at], entry[at + 1], entry[at + 2], entry[at + 3]]
 }
 
-fn lines(out: &impl Print, tally: Tally, k: usize, f: Figures, published: [u64; 4]) -> io::Result<Tally> {
+fn lines(
+    out: &impl Print,
+    tally: Tally,
+    k: usize,
+    f: Figures,
+    published: [u64; 4],
+) -> io::Result<Tally> {
     let mean = f.mean;
     let t1 = line(out, tally, k, b": arl ", mean.in_places(2), published[0], 2)?;
     let t2 = line(out, t1, k, b": q1 ", f.quartile_1, published[1], 0)?;

@@ -29,7 +29,16 @@ fn published(i: usize) -> [u64; 4]
 
 // Where the rule with this number is added: prints its name, and gives the list with the rule for each side of the
 // centre line.
-fn with(out: &impl Print, list: RuleList, added: u64, number: u64, k: u32, m: u32, low: u32, high: u32) -> io::Result<RuleList> {
+fn with(
+    out: &impl Print,
+    list: RuleList,
+    added: u64,
+    number: u64,
+    k: u32,
+    m: u32,
+    low: u32,
+    high: u32,
+) -> io::Result<RuleList> {
     if added == 0 {
         return Ok(list);
     }

@@ -66,7 +66,15 @@ fn name(out: &impl Print, i: usize) -> io::Result<()> {
     }
 }
 
-fn line(out: &impl Print, tally: Tally, i: usize, kind: &[u8], ours: Exact, units: u64, places: u64) -> io::Result<Tally> {
+fn line(
+    out: &impl Print,
+    tally: Tally,
+    i: usize,
+    kind: &[u8],
+    ours: Exact,
+    units: u64,
+    places: u64,
+) -> io::Result<Tally> {
     name(out, i)?;
     compare::figure(
         out,
@@ -78,7 +86,14 @@ fn line(out: &impl Print, tally: Tally, i: usize, kind: &[u8], ours: Exact, unit
     )
 }
 
-fn probability(out: &impl Print, tally: Tally, i: usize, ours: Exact, units: u64, places: u64) -> io::Result<Tally> {
+fn probability(
+    out: &impl Print,
+    tally: Tally,
+    i: usize,
+    ours: Exact,
+    units: u64,
+    places: u64,
+) -> io::Result<Tally> {
     if i == FOUR_RULES {
         return Ok(tally);
     }

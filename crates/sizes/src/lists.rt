@@ -14,7 +14,11 @@ fn rule(out: &impl Print, name: &[u8], i: u64, r: Rule) -> io::Result<()> {
     field(out, name, i, b"_Z,", r.zones)
 }
 
-fn slots(out: &impl Print, name: &[u8], rules: [Rule; RuleList::MAX_RULES as usize]) -> io::Result<()> {
+fn slots(
+    out: &impl Print,
+    name: &[u8],
+    rules: [Rule; RuleList::MAX_RULES as usize],
+) -> io::Result<()> {
     rule(out, name, 0, rules[0])?;
     rule(out, name, 1, rules[1])?;
     rule(out, name, 2, rules[2])?;

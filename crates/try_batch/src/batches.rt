@@ -38,13 +38,27 @@ pub fn full_at_second(out: &impl Print) -> io::Result<()> {
         10,
         &[101, 90],
     )?;
-    batch(out, b"101, one point before the last:", list, nearly, 10, &[101])
+    batch(
+        out,
+        b"101, one point before the last:",
+        list,
+        nearly,
+        10,
+        &[101],
+    )
 }
 
 // 2,2,6 and 2,3,6 hold together at the second point.
 pub fn two_rules(out: &impl Print) -> io::Result<()> {
     let list = pair(Rule::new(2, 2, 6), Rule::new(2, 3, 6), 2);
-    batch(out, b"121, 111:", list, Monitor::fresh(), 10, &[121, 111, 100])?;
+    batch(
+        out,
+        b"121, 111:",
+        list,
+        Monitor::fresh(),
+        10,
+        &[121, 111, 100],
+    )?;
     batch(
         out,
         b"121, 100, 111:",

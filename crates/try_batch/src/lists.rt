@@ -36,7 +36,14 @@ fn answer(out: &impl Print, found: Batch) -> io::Result<()> {
 }
 
 // The batch on a chart with centre 100.
-pub fn batch(out: &impl Print, name: &[u8], list: RuleList, monitor: Monitor, sigma: u32, readings: &[i32]) -> io::Result<()> {
+pub fn batch(
+    out: &impl Print,
+    name: &[u8],
+    list: RuleList,
+    monitor: Monitor,
+    sigma: u32,
+    readings: &[i32],
+) -> io::Result<()> {
     show::text(out, name)?;
     answer(out, take_readings(list, monitor, 100, sigma, readings))
 }

@@ -46,7 +46,14 @@ pub fn one_reading(out: &impl Print) -> io::Result<()> {
     let list = RuleList::western_electric();
     batch(out, b"no rules:", none(), Monitor::fresh(), 10, &[100])?;
     batch(out, b"sigma 0:", list, Monitor::fresh(), 0, &[100])?;
-    batch(out, b"a hit with no points counted:", list, UNMET, 10, &[100])?;
+    batch(
+        out,
+        b"a hit with no points counted:",
+        list,
+        UNMET,
+        10,
+        &[100],
+    )?;
     batch(out, b"a full count:", list, FULL, 10, &[100])
 }
 

@@ -1,8 +1,8 @@
 // Brackets of tables, for every percent from 1 to 99.
 use crate::answers;
 use rules::{Rule, RuleList, ZONES};
-use table::TableAnswer;
 use std::io;
+use table::TableAnswer;
 
 fn every_percent(out: &impl Print, pmf: &[u64], states: u32) -> io::Result<()> {
     for p in 1..100 {

@@ -29,20 +29,14 @@ pub fn zoned(out: &impl Print, answer: ZoneAnswer) -> io::Result<()> {
             number(out, b" zone ", z as u64)?;
             text(out, b"\n")
         }
-        ZoneAnswer::Refused(r) => {
-            refusal(out, r)
-        }
+        ZoneAnswer::Refused(r) => { refusal(out, r) }
     }
 }
 
 pub fn checked(out: &impl Print, answer: Checked) -> io::Result<()> {
     match answer {
-        Checked::Accepted => {
-            text(out, b" accepted\n")
-        }
-        Checked::Refused(r) => {
-            refusal(out, r)
-        }
+        Checked::Accepted => { text(out, b" accepted\n") }
+        Checked::Refused(r) => { refusal(out, r) }
     }
 }
 

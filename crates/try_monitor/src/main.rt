@@ -16,7 +16,12 @@ fn main(rt: HostRuntime) -> io::Result<()> {
         0,
         zones::EXAMPLES,
     )?;
-    zones::run(&rt, b"zones at the extremes\n", zones::EXAMPLES, zones::EXTREMES)?;
+    zones::run(
+        &rt,
+        b"zones at the extremes\n",
+        zones::EXAMPLES,
+        zones::EXTREMES,
+    )?;
     zones::run(&rt, b"refusal 1\n", zones::EXTREMES, zones::ALL)?;
     checks::ready_lists(&rt, b"ready lists\n")?;
     checks::run(&rt, b"refusals 2, 3 and 4\n")?;

@@ -109,7 +109,11 @@ fn readings(out: &impl Print, l: RuleList, rs: &[i32]) -> io::Result<()> {
 
 pub fn example(out: &impl Print, heading: &[u8]) -> io::Result<()> {
     show::text(out, heading)?;
-    readings(out, RuleList::western_electric(), &[121, 100, 121, 121, 131])
+    readings(
+        out,
+        RuleList::western_electric(),
+        &[121, 100, 121, 121, 131],
+    )
 }
 
 // Two points in A1.

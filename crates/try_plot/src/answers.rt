@@ -63,11 +63,7 @@ fn record(out: &impl Print, r: PlotRecord) -> io::Result<()> {
 
 pub fn answer(out: &impl Print, a: BoxPlotAnswer) -> io::Result<()> {
     match a {
-        BoxPlotAnswer::Accepted(r) => {
-            record(out, r)
-        }
-        BoxPlotAnswer::Refused(r) => {
-            show::refusal(out, r)
-        }
+        BoxPlotAnswer::Accepted(r) => { record(out, r) }
+        BoxPlotAnswer::Refused(r) => { show::refusal(out, r) }
     }
 }

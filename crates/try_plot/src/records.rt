@@ -43,13 +43,19 @@ fn in_control() -> [u32; ZONES] {
 pub fn listing(out: &impl Print) -> io::Result<()> {
     let mut pmf = [1u64; 9];
     let mut survival = [1u64; 9];
-    answers::answer(out, plot::box_plot(two_of_two(), halves(), 4, &mut pmf, &mut survival))
+    answers::answer(
+        out,
+        plot::box_plot(two_of_two(), halves(), 4, &mut pmf, &mut survival),
+    )
 }
 
 fn thousand(out: &impl Print, list: RuleList) -> io::Result<()> {
     let mut pmf = [0u64; 1000];
     let mut survival = [0u64; 1000];
-    answers::answer(out, plot::box_plot(list, in_control(), 1000, &mut pmf, &mut survival))
+    answers::answer(
+        out,
+        plot::box_plot(list, in_control(), 1000, &mut pmf, &mut survival),
+    )
 }
 
 pub fn western_electric(out: &impl Print) -> io::Result<()> {
@@ -63,13 +69,19 @@ pub fn duncan(out: &impl Print) -> io::Result<()> {
 pub fn one_point(out: &impl Print) -> io::Result<()> {
     let mut pmf = [0u64; 1];
     let mut survival = [0u64; 1];
-    answers::answer(out, plot::box_plot(two_of_two(), halves(), 1, &mut pmf, &mut survival))
+    answers::answer(
+        out,
+        plot::box_plot(two_of_two(), halves(), 1, &mut pmf, &mut survival),
+    )
 }
 
 fn with(out: &impl Print, weights: [u32; ZONES], horizon: u32) -> io::Result<()> {
     let mut pmf = [0u64; 2];
     let mut survival = [0u64; 2];
-    answers::answer(out, plot::box_plot(two_of_two(), weights, horizon, &mut pmf, &mut survival))
+    answers::answer(
+        out,
+        plot::box_plot(two_of_two(), weights, horizon, &mut pmf, &mut survival),
+    )
 }
 
 pub fn refused(out: &impl Print) -> io::Result<()> {

@@ -71,6 +71,10 @@ pub fn areas(out: &impl Print) -> io::Result<()> {
         b"of the printed table's 451 areas are met: ",
         within((FIVE_12 + TWO_18) / 2),
     )?;
-    show::number(out, b", and rounded to our unit are ours: ", within(FIVE_12 / 2))?;
+    show::number(
+        out,
+        b", and rounded to our unit are ours: ",
+        within(FIVE_12 / 2),
+    )?;
     show::text(out, b"\n")
 }

@@ -1,8 +1,8 @@
 // Every shift through the run-length table of the Western Electric rules, to 48 periods.
 use rules::{RuleList, ZoneWeights, weight_array};
 use shift::ShiftAnswer;
-use table::TableAnswer;
 use std::io;
+use table::TableAnswer;
 
 const HORIZON: usize = 48;
 

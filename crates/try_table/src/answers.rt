@@ -1,6 +1,6 @@
 // Printing answers.
-use table::{TableAnswer, TableFigures};
 use std::io;
+use table::{TableAnswer, TableFigures};
 
 fn figures(out: &impl Print, f: TableFigures) -> io::Result<()> {
     show::number(out, b" states ", f.state_count as u64)?;

@@ -93,7 +93,10 @@ pub fn table_of(
     let mut survival = [0u64; 65535];
     let p = (pmf_places % 65536) as usize;
     let s = (survival_places % 65536) as usize;
-    answers::answer(out, table::run_length_table(list, w, horizon, &mut pmf[0..p], &mut survival[0..s]))
+    answers::answer(
+        out,
+        table::run_length_table(list, w, horizon, &mut pmf[0..p], &mut survival[0..s]),
+    )
 }
 
 fn one(out: &impl Print, case: [u64; 14]) -> io::Result<()> {

@@ -62,6 +62,10 @@ pub fn merged(out: &impl Print, heading: &[u8]) -> io::Result<()> {
 
 pub fn given_twice(out: &impl Print, heading: &[u8]) -> io::Result<()> {
     show::text(out, heading)?;
-    named(out, b"Western Electric, its first rule twice", first_twice())?;
+    named(
+        out,
+        b"Western Electric, its first rule twice",
+        first_twice(),
+    )?;
     cases::run(out, cases::MERGED, cases::TWICE)
 }

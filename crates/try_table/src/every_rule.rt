@@ -1,8 +1,8 @@
 // How many states every rule alone has.
 use crate::listing::weights;
 use rules::{Rule, RuleList};
-use table::TableAnswer;
 use std::io;
+use table::TableAnswer;
 
 // The states of the rule alone.
 fn states(out: &impl Print, k: u32, m: u32, zones: u32) -> io::Result<()> {

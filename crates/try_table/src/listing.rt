@@ -23,7 +23,10 @@ pub fn rows(out: &impl Print, heading: &[u8], list: [u64; 7]) -> io::Result<()> 
     let mut survival = [8u64; 6];
     show::text(out, heading)?;
     let l = lists::listed(out, &list, Rule::new(0, 0, 0))?;
-    answers::answer(out, table::run_length_table(l, weights(), 4, &mut pmf, &mut survival))?;
+    answers::answer(
+        out,
+        table::run_length_table(l, weights(), 4, &mut pmf, &mut survival),
+    )?;
     for i in 0..6 {
         line(out, i + 1, pmf[i], survival[i])?;
     }

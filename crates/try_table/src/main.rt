@@ -18,8 +18,14 @@ fn main(rt: HostRuntime) -> io::Result<()> {
         b"rule 2,3,2 on the listing's weights\n",
         [2, 3, 2, 0, 0, 0, 1],
     )?;
-    every_rule::every_rule(&rt, b"states of k,m on zones 1 and 2, on all but C0, and on all zones\n")?;
-    counts::largest(&rt, b"the largest lists, with the weights of zones 0, 1, 2 and 4\n")?;
+    every_rule::every_rule(
+        &rt,
+        b"states of k,m on zones 1 and 2, on all but C0, and on all zones\n",
+    )?;
+    counts::largest(
+        &rt,
+        b"the largest lists, with the weights of zones 0, 1, 2 and 4\n",
+    )?;
     counts::merged(&rt, b"lists with standings that do not differ\n")?;
     counts::given_twice(&rt, b"rules given twice\n")?;
     show::text(&rt, b"refusals\n")?;

@@ -7,10 +7,9 @@ mod bytes;
 mod reports;
 
 use std::fs::File;
-use std::io;
 use std::io::Read;
 use std::rt::Files;
-use std::str;
+use std::{io, str};
 
 // The report of a file's text. One byte more than the longest text is read, so that a longer one is told.
 fn opened<F: Read>(out: &impl Print, path: &[u8], file: &mut F) -> io::Result<()> {
