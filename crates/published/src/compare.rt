@@ -1,5 +1,6 @@
 // A published figure beside ours, and the count of those that are met.
 use crate::decimal;
+use std::io;
 
 #[derive(Clone, Copy)]
 pub struct Tally {
@@ -17,13 +18,20 @@ impl Tally {
 }
 
 // Ends a line that begins with the chart's name. Both figures are in units of the last decimal place that is printed in the source.
-pub fn figure(tally: Tally, kind: &[u8], ours: u64, published: u64, places: u32) -> Tally {
-    decimal::print(kind, ours, places);
-    decimal::print(b" published ", published, places);
+pub fn figure(
+    out: &impl Print,
+    tally: Tally,
+    kind: &[u8],
+    ours: u64,
+    published: u64,
+    places: u32,
+) -> io::Result<Tally> {
+    decimal::print(out, kind, ours, places)?;
+    decimal::print(out, b" published ", published, places)?;
     if ours == published {
-        show::text(b" met\n");
-        return tally.add(1);
+        show::text(out, b" met\n")?;
+        return Ok(tally.add(1));
     }
-    show::text(b" not met\n");
-    tally.add(0)
+    show::text(out, b" not met\n")?;
+    Ok(tally.add(0))
 }

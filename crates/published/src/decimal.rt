@@ -2,6 +2,7 @@
 ghost use Rattle.std.specs.Prelude.{◌≤◌};
 
 use runlength::UNITS_PER_ONE;
+use std::io;
 
 // The fraction is in units of 2^-60.
 #[derive(Clone, Copy)]
@@ -55,15 +56,14 @@ fn ten_to(power: u32) -> u64
 }
 
 // Prints n units of the last of up to 5 decimal places.
-pub fn print(before: &[u8], n: u64, places: u32) {
-    show::number(before, n / ten_to(places));
+pub fn print(out: &impl Print, before: &[u8], n: u64, places: u32) -> io::Result<()> {
+    show::number(out, before, n / ten_to(places))?;
     if places == 0 {
-        return;
+        return Ok(());
     }
-    show::text(b".");
-    let mut left = places;
-    while left > 0 {
-        left -= 1;
-        show::number(b"", n / ten_to(left) % 10);
+    show::text(out, b".")?;
+    for left in (0..places).rev() {
+        show::number(out, b"", n / ten_to(left) % 10)?;
     }
+    Ok(())
 }

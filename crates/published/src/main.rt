@@ -1,5 +1,7 @@
 // Compares the figures of tables and brackets with those published in sources 001, 002 and 004, each rounded as it is printed there.
 // A figure that is not met is explained in docs/DECISIONS.md. What it prints is compared with the file `stdout`.
+#![tactic(auto)]
+
 mod compare;
 mod decimal;
 mod figures;
@@ -9,13 +11,14 @@ mod source004;
 mod weights001;
 
 use compare::Tally;
+use std::io;
 
-fn main() {
+fn main(rt: HostRuntime) -> io::Result<()> {
     let start = Tally { figures: 0, met: 0 };
-    let after_001 = source001::tables(start);
-    let after_002 = source002::table(after_001);
-    let all = source004::examples(after_002);
-    show::number(b"", all.figures);
-    show::number(b" figures, ", all.met);
-    show::text(b" met\n");
+    let after_001 = source001::tables(&rt, start)?;
+    let after_002 = source002::table(&rt, after_001)?;
+    let all = source004::examples(&rt, after_002)?;
+    show::number(&rt, b"", all.figures)?;
+    show::number(&rt, b" figures, ", all.met)?;
+    show::text(&rt, b" met\n")
 }

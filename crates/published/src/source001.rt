@@ -6,6 +6,7 @@ use crate::compare::Tally;
 use crate::figures::Figures;
 use crate::{compare, figures, weights001};
 use rules::{Rule, RuleList};
+use std::io;
 
 const ROWS: usize = 16;
 
@@ -62,17 +63,25 @@ fn rules_of(table: usize) -> RuleList {
     }
 }
 
-fn name(table: usize) {
-    show::number(b"001 table ", (table % 4 + 1) as u64);
-    show::number(b" R1+R", (table % 4 + 2) as u64);
+fn name(out: &impl Print, table: usize) -> io::Result<()> {
+    show::number(out, b"001 table ", (table % 4 + 1) as u64)?;
+    show::number(out, b" R1+R", (table % 4 + 2) as u64)
 }
 
 // One line of row k.
-fn line(tally: Tally, k: usize, kind: &[u8], ours: u64, published: u64, places: u32) -> Tally {
-    name(k / weights001::SETTINGS);
+fn line(
+    out: &impl Print,
+    tally: Tally,
+    k: usize,
+    kind: &[u8],
+    ours: u64,
+    published: u64,
+    places: u32,
+) -> io::Result<Tally> {
+    name(out, k / weights001::SETTINGS)?;
     let setting = weights001::setting(k % weights001::SETTINGS);
-    weights001::print(setting[0], setting[1], setting[2]);
-    compare::figure(tally, kind, ours, published, places)
+    weights001::print(out, setting[0], setting[1], setting[2])?;
+    compare::figure(out, tally, kind, ours, published, places)
 }
 
 fn published(i: usize) -> [u64; 12]
@@ -89,15 +98,21 @@ fn for_lambda(entry: [u64; 12], lambda: usize) -> [u64; 4]
     [entry[at], entry[at + 1], entry[at + 2], entry[at + 3]]
 }
 
-fn lines(tally: Tally, k: usize, f: Figures, published: [u64; 4]) -> Tally {
+fn lines(
+    out: &impl Print,
+    tally: Tally,
+    k: usize,
+    f: Figures,
+    published: [u64; 4],
+) -> io::Result<Tally> {
     let mean = f.mean;
-    let t1 = line(tally, k, b": arl ", mean.in_places(2), published[0], 2);
-    let t2 = line(t1, k, b": q1 ", f.quartile_1, published[1], 0);
-    let t3 = line(t2, k, b": median ", f.median, published[2], 0);
-    line(t3, k, b": q3 ", f.quartile_3, published[3], 0)
+    let t1 = line(out, tally, k, b": arl ", mean.in_places(2), published[0], 2)?;
+    let t2 = line(out, t1, k, b": q1 ", f.quartile_1, published[1], 0)?;
+    let t3 = line(out, t2, k, b": median ", f.median, published[2], 0)?;
+    line(out, t3, k, b": q3 ", f.quartile_3, published[3], 0)
 }
 
-fn entry(tally: Tally, k: usize) -> Tally
+fn entry(out: &impl Print, tally: Tally, k: usize) -> io::Result<Tally>
     requires { k < 48 }
 {
     let printed = for_lambda(published(k / LAMBDAS), k % LAMBDAS);
@@ -105,13 +120,13 @@ fn entry(tally: Tally, k: usize) -> Tally
     let list = rules_of(k / weights001::SETTINGS);
     let weights = weights001::weights_of(weights001::setting(k % weights001::SETTINGS));
     let f = figures::of_chart(list, weights, horizon);
-    lines(tally, k, f, printed)
+    lines(out, tally, k, f, printed)
 }
 
-pub fn tables(tally: Tally) -> Tally {
+pub fn tables(out: &impl Print, tally: Tally) -> io::Result<Tally> {
     let mut all = tally;
     for k in 0..ROWS * LAMBDAS {
-        all = entry(all, k);
+        all = entry(out, all, k)?;
     }
-    all
+    Ok(all)
 }

@@ -5,6 +5,7 @@ ghost use Rattle.std.specs.Prelude.{◌<◌};
 use crate::compare::Tally;
 use crate::{compare, figures};
 use rules::{Rule, RuleList, ZONES};
+use std::io;
 
 const CHARTS: usize = 8;
 
@@ -28,19 +29,28 @@ fn published(i: usize) -> [u64; 4]
 
 // Where the rule with this number is added: prints its name, and gives the list with the rule for each side of the
 // centre line.
-fn with(list: RuleList, added: u64, number: u64, k: u32, m: u32, low: u32, high: u32) -> RuleList {
+fn with(
+    out: &impl Print,
+    list: RuleList,
+    added: u64,
+    number: u64,
+    k: u32,
+    m: u32,
+    low: u32,
+    high: u32,
+) -> io::Result<RuleList> {
     if added == 0 {
-        return list;
+        return Ok(list);
     }
-    show::number(b"+R", number);
+    show::number(out, b"+R", number)?;
     let mut rules = list.rules;
     let at = (list.len % 7) as usize;
     rules[at] = Rule { k, m, zones: low };
     rules[at + 1] = Rule { k, m, zones: high };
-    RuleList {
+    Ok(RuleList {
         rules,
         len: list.len % 7 + 2,
-    }
+    })
 }
 
 // The normal law's probability of each zone in control times 2^30, rounded to the nearest whole number; the sum is 2^30. No point of a
@@ -51,20 +61,20 @@ pub fn in_control() -> [u32; ZONES] {
     ]
 }
 
-fn chart(tally: Tally, entry: [u64; 4]) -> Tally {
-    show::text(b"002 table 1 R1");
-    let two = with(figures::outside_limits(), entry[0], 2, 2, 3, 64, 2);
-    let three = with(two, entry[1], 3, 4, 5, 96, 6);
-    let four = with(three, entry[2], 4, 9, 9, 112, 14);
+fn chart(out: &impl Print, tally: Tally, entry: [u64; 4]) -> io::Result<Tally> {
+    show::text(out, b"002 table 1 R1")?;
+    let two = with(out, figures::outside_limits(), entry[0], 2, 2, 3, 64, 2)?;
+    let three = with(out, two, entry[1], 3, 4, 5, 96, 6)?;
+    let four = with(out, three, entry[2], 4, 9, 9, 112, 14)?;
     let f = figures::of_chart(four, in_control(), figures::horizon_for(entry[3] / 10000));
     let mean = f.mean;
-    compare::figure(tally, b": arl ", mean.in_places(4), entry[3], 4)
+    compare::figure(out, tally, b": arl ", mean.in_places(4), entry[3], 4)
 }
 
-pub fn table(tally: Tally) -> Tally {
+pub fn table(out: &impl Print, tally: Tally) -> io::Result<Tally> {
     let mut all = tally;
     for i in 0..CHARTS {
-        all = chart(all, published(i));
+        all = chart(out, all, published(i))?;
     }
-    all
+    Ok(all)
 }

@@ -11,6 +11,7 @@ use crate::decimal::Exact;
 use crate::{compare, figures, source002};
 use rules::{RuleList, ZONES};
 use show::lists::narrow;
+use std::io;
 
 const CHARTS: usize = 5;
 
@@ -55,19 +56,28 @@ fn rules_of(i: usize) -> RuleList {
     figures::outside_limits()
 }
 
-fn name(i: usize) {
+fn name(out: &impl Print, i: usize) -> io::Result<()> {
     match i {
-        0 => show::text(b"004 example 15-1 in control"),
-        1 => show::text(b"004 example 15-1 shifted"),
-        2 => show::text(b"004 Western Electric in control"),
-        3 => show::text(b"004 example 15-2 in control"),
-        _ => show::text(b"004 example 15-2 shifted"),
+        0 => show::text(out, b"004 example 15-1 in control"),
+        1 => show::text(out, b"004 example 15-1 shifted"),
+        2 => show::text(out, b"004 Western Electric in control"),
+        3 => show::text(out, b"004 example 15-2 in control"),
+        _ => show::text(out, b"004 example 15-2 shifted"),
     }
 }
 
-fn line(tally: Tally, i: usize, kind: &[u8], ours: Exact, units: u64, places: u64) -> Tally {
-    name(i);
+fn line(
+    out: &impl Print,
+    tally: Tally,
+    i: usize,
+    kind: &[u8],
+    ours: Exact,
+    units: u64,
+    places: u64,
+) -> io::Result<Tally> {
+    name(out, i)?;
     compare::figure(
+        out,
         tally,
         kind,
         ours.in_places(narrow(places)),
@@ -76,26 +86,33 @@ fn line(tally: Tally, i: usize, kind: &[u8], ours: Exact, units: u64, places: u6
     )
 }
 
-fn probability(tally: Tally, i: usize, ours: Exact, units: u64, places: u64) -> Tally {
+fn probability(
+    out: &impl Print,
+    tally: Tally,
+    i: usize,
+    ours: Exact,
+    units: u64,
+    places: u64,
+) -> io::Result<Tally> {
     if i == FOUR_RULES {
-        return tally;
+        return Ok(tally);
     }
-    line(tally, i, b": probability ", ours, units, places)
+    line(out, tally, i, b": probability ", ours, units, places)
 }
 
-fn chart(tally: Tally, i: usize) -> Tally
+fn chart(out: &impl Print, tally: Tally, i: usize) -> io::Result<Tally>
     requires { i < 5 }
 {
     let p = published(i);
     let f = figures::of_chart(rules_of(i), weights(i), figures::horizon_for(p[4]));
-    let t1 = probability(tally, i, f.first, p[0], p[1]);
-    line(t1, i, b": arl ", f.mean, p[2], p[3])
+    let t1 = probability(out, tally, i, f.first, p[0], p[1])?;
+    line(out, t1, i, b": arl ", f.mean, p[2], p[3])
 }
 
-pub fn examples(tally: Tally) -> Tally {
+pub fn examples(out: &impl Print, tally: Tally) -> io::Result<Tally> {
     let mut all = tally;
     for i in 0..CHARTS {
-        all = chart(all, i);
+        all = chart(out, all, i)?;
     }
-    all
+    Ok(all)
 }

@@ -8,6 +8,7 @@ ghost use Rattle.std.specs.Prelude.{◌<◌};
 
 use crate::decimal;
 use rules::ZONES;
+use std::io;
 
 pub const SETTINGS: usize = 12;
 
@@ -38,8 +39,8 @@ pub fn weights_of(entry: [u32; 7]) -> [u32; ZONES] {
     [entry[3], entry[4], entry[5], entry[6], 0, 0, 0, 0]
 }
 
-pub fn print(freedom: u32, r: u32, lambda: u32) {
-    show::number(b" df ", freedom as u64);
-    decimal::print(b" r ", r as u64, 1);
-    decimal::print(b" lambda ", lambda as u64, 1);
+pub fn print(out: &impl Print, freedom: u32, r: u32, lambda: u32) -> io::Result<()> {
+    show::number(out, b" df ", freedom as u64)?;
+    decimal::print(out, b" r ", r as u64, 1)?;
+    decimal::print(out, b" lambda ", lambda as u64, 1)
 }

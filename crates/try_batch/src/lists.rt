@@ -2,6 +2,7 @@
 use batch::{Batch, LastPoint, take_readings};
 use monitor::Monitor;
 use rules::{Rule, RuleList};
+use std::io;
 
 // Two rules in the first slots.
 pub fn pair(first: Rule, second: Rule, len: u32) -> RuleList {
@@ -16,26 +17,33 @@ pub fn pair(first: Rule, second: Rule, len: u32) -> RuleList {
 }
 
 // The mask of the last reading, 0 for quiet.
-fn mask(last: LastPoint) {
+fn mask(out: &impl Print, last: LastPoint) -> io::Result<()> {
     match last {
-        LastPoint::Quiet => show::number(b" mask ", 0),
-        LastPoint::Signal(rules) => show::number(b" mask ", rules as u64),
+        LastPoint::Quiet => show::number(out, b" mask ", 0),
+        LastPoint::Signal(rules) => show::number(out, b" mask ", rules as u64),
     }
 }
 
-fn answer(found: Batch) {
-    show::number(b" taken ", found.taken as u64);
-    show::number(b" count ", found.count as u64);
+fn answer(out: &impl Print, found: Batch) -> io::Result<()> {
+    show::number(out, b" taken ", found.taken as u64)?;
+    show::number(out, b" count ", found.count as u64)?;
     let last = found.last;
-    mask(last);
+    mask(out, last)?;
     let next = found.next;
-    show::number(b" then state ", next.state);
-    show::number(b" count ", next.count as u64);
-    show::refusal(found.refusal);
+    show::number(out, b" then state ", next.state)?;
+    show::number(out, b" count ", next.count as u64)?;
+    show::refusal(out, found.refusal)
 }
 
 // The batch on a chart with centre 100.
-pub fn batch(name: &[u8], list: RuleList, monitor: Monitor, sigma: u32, readings: &[i32]) {
-    show::text(name);
-    answer(take_readings(list, monitor, 100, sigma, readings));
+pub fn batch(
+    out: &impl Print,
+    name: &[u8],
+    list: RuleList,
+    monitor: Monitor,
+    sigma: u32,
+    readings: &[i32],
+) -> io::Result<()> {
+    show::text(out, name)?;
+    answer(out, take_readings(list, monitor, 100, sigma, readings))
 }

@@ -2,6 +2,7 @@
 use crate::lists::{batch, pair};
 use monitor::Monitor;
 use rules::{Rule, RuleList};
+use std::io;
 
 const FULL: Monitor = Monitor {
     state: 0,
@@ -15,11 +16,12 @@ fn none() -> RuleList {
     pair(Rule::new(0, 0, 0), Rule::new(0, 0, 0), 0)
 }
 
-pub fn no_readings() {
+pub fn no_readings(out: &impl Print) -> io::Result<()> {
     let list = RuleList::western_electric();
-    batch(b"sigma 1:", list, Monitor::fresh(), 1, &[]);
-    batch(b"sigma 65535:", list, Monitor::fresh(), 65535, &[]);
+    batch(out, b"sigma 1:", list, Monitor::fresh(), 1, &[])?;
+    batch(out, b"sigma 65535:", list, Monitor::fresh(), 65535, &[])?;
     batch(
+        out,
         b"one point before the last:",
         list,
         Monitor {
@@ -28,33 +30,41 @@ pub fn no_readings() {
         },
         10,
         &[],
-    );
+    )
 }
 
-pub fn no_readings_refused() {
+pub fn no_readings_refused(out: &impl Print) -> io::Result<()> {
     let list = RuleList::western_electric();
-    batch(b"no rules:", none(), Monitor::fresh(), 10, &[]);
-    batch(b"sigma 0:", list, Monitor::fresh(), 0, &[]);
-    batch(b"sigma 65536:", list, Monitor::fresh(), 65536, &[]);
-    batch(b"a hit with no points counted:", list, UNMET, 10, &[]);
-    batch(b"a full count:", list, FULL, 10, &[]);
+    batch(out, b"no rules:", none(), Monitor::fresh(), 10, &[])?;
+    batch(out, b"sigma 0:", list, Monitor::fresh(), 0, &[])?;
+    batch(out, b"sigma 65536:", list, Monitor::fresh(), 65536, &[])?;
+    batch(out, b"a hit with no points counted:", list, UNMET, 10, &[])?;
+    batch(out, b"a full count:", list, FULL, 10, &[])
 }
 
-pub fn one_reading() {
+pub fn one_reading(out: &impl Print) -> io::Result<()> {
     let list = RuleList::western_electric();
-    batch(b"no rules:", none(), Monitor::fresh(), 10, &[100]);
-    batch(b"sigma 0:", list, Monitor::fresh(), 0, &[100]);
-    batch(b"a hit with no points counted:", list, UNMET, 10, &[100]);
-    batch(b"a full count:", list, FULL, 10, &[100]);
+    batch(out, b"no rules:", none(), Monitor::fresh(), 10, &[100])?;
+    batch(out, b"sigma 0:", list, Monitor::fresh(), 0, &[100])?;
+    batch(
+        out,
+        b"a hit with no points counted:",
+        list,
+        UNMET,
+        10,
+        &[100],
+    )?;
+    batch(out, b"a full count:", list, FULL, 10, &[100])
 }
 
-pub fn order() {
+pub fn order(out: &impl Print) -> io::Result<()> {
     let bounds = pair(Rule::new(1, 1, 1), Rule::new(2, 1, 0), 2);
     let zones = pair(Rule::new(1, 1, 1), Rule::new(1, 1, 256), 2);
-    batch(b"3 before 4 and 1:", bounds, UNMET, 0, &[]);
-    batch(b"4 before 1:", zones, UNMET, 0, &[]);
-    batch(b"1 before 5:", RuleList::duncan(), UNMET, 0, &[]);
+    batch(out, b"3 before 4 and 1:", bounds, UNMET, 0, &[])?;
+    batch(out, b"4 before 1:", zones, UNMET, 0, &[])?;
+    batch(out, b"1 before 5:", RuleList::duncan(), UNMET, 0, &[])?;
     batch(
+        out,
         b"5 before 7:",
         RuleList::duncan(),
         Monitor {
@@ -63,5 +73,5 @@ pub fn order() {
         },
         10,
         &[],
-    );
+    )
 }

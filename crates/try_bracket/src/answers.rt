@@ -1,43 +1,43 @@
 // Printing a bracket.
 use bracket::{Bracket, BracketAnswer, percentile_bracket};
-use libc::STDOUT_FILENO;
+use std::io;
 
-pub fn decimal(n: u64) {
-    io::print_decimal(STDOUT_FILENO, n);
+pub fn decimal(out: &impl Print, n: u64) -> io::Result<()> {
+    out.print(n)
 }
 
-fn between(low: u32, high: u32) {
-    show::number(b" between ", low as u64);
-    show::number(b" and ", high as u64);
+fn between(out: &impl Print, low: u32, high: u32) -> io::Result<()> {
+    show::number(out, b" between ", low as u64)?;
+    show::number(out, b" and ", high as u64)
 }
 
-fn bracket(p: Bracket) {
+fn bracket(out: &impl Print, p: Bracket) -> io::Result<()> {
     match p {
-        Bracket::At(n) => show::number(b" at ", n as u64),
-        Bracket::Between { low, high } => between(low, high),
-        Bracket::Open(n) => show::number(b" open from ", n as u64),
-        Bracket::Beyond(n) => show::number(b" beyond ", n as u64),
+        Bracket::At(n) => show::number(out, b" at ", n as u64),
+        Bracket::Between { low, high } => between(out, low, high),
+        Bracket::Open(n) => show::number(out, b" open from ", n as u64),
+        Bracket::Beyond(n) => show::number(out, b" beyond ", n as u64),
     }
 }
 
-fn accepted(p: Bracket) {
-    bracket(p);
-    show::text(b"\n");
+fn accepted(out: &impl Print, p: Bracket) -> io::Result<()> {
+    bracket(out, p)?;
+    show::text(out, b"\n")
 }
 
-pub fn answer(a: BracketAnswer) {
+pub fn answer(out: &impl Print, a: BracketAnswer) -> io::Result<()> {
     match a {
-        BracketAnswer::Refused(r) => show::refusal(r),
-        BracketAnswer::Accepted(p) => accepted(p),
+        BracketAnswer::Refused(r) => show::refusal(out, r),
+        BracketAnswer::Accepted(p) => accepted(out, p),
     }
 }
 
 // The bracket of a list of one chance.
-pub fn one(states: u32, percent: u32, pmf: u64) {
-    answer(percentile_bracket(&[pmf], states, percent));
+pub fn one(out: &impl Print, states: u32, percent: u32, pmf: u64) -> io::Result<()> {
+    answer(out, percentile_bracket(&[pmf], states, percent))
 }
 
 // The bracket of a list of two chances.
-pub fn two(states: u32, percent: u32, first: u64, second: u64) {
-    answer(percentile_bracket(&[first, second], states, percent));
+pub fn two(out: &impl Print, states: u32, percent: u32, first: u64, second: u64) -> io::Result<()> {
+    answer(out, percentile_bracket(&[first, second], states, percent))
 }

@@ -2,83 +2,84 @@
 use crate::answers;
 use bracket::percentile_bracket;
 use show::text;
+use std::io;
 
-fn list(name: &[u8], pmf: &[u64]) {
-    text(name);
-    answers::answer(percentile_bracket(pmf, 1, 50));
+fn list(out: &impl Print, name: &[u8], pmf: &[u64]) -> io::Result<()> {
+    text(out, name)?;
+    answers::answer(out, percentile_bracket(pmf, 1, 50))
 }
 
-fn of_lengths() {
-    list(b"an empty list", &[]);
-    text(b"1 chance");
-    answers::one(1, 50, 0);
-    list(b"65535 chances", &[0u64; 65535]);
-    list(b"65536 chances", &[0u64; 65536]);
+fn of_lengths(out: &impl Print) -> io::Result<()> {
+    list(out, b"an empty list", &[])?;
+    text(out, b"1 chance")?;
+    answers::one(out, 1, 50, 0)?;
+    list(out, b"65535 chances", &[0u64; 65535])?;
+    list(out, b"65536 chances", &[0u64; 65536])
 }
 
-fn states(n: u32) {
-    answers::decimal(n as u64);
-    text(b" states");
-    answers::one(n, 50, 0);
+fn states(out: &impl Print, n: u32) -> io::Result<()> {
+    answers::decimal(out, n as u64)?;
+    text(out, b" states")?;
+    answers::one(out, n, 50, 0)
 }
 
-fn of_counts() {
-    states(0);
-    text(b"1 state");
-    answers::one(1, 50, 0);
-    states(1024);
-    states(1025);
-    states(4294967295);
+fn of_counts(out: &impl Print) -> io::Result<()> {
+    states(out, 0)?;
+    text(out, b"1 state")?;
+    answers::one(out, 1, 50, 0)?;
+    states(out, 1024)?;
+    states(out, 1025)?;
+    states(out, 4294967295)
 }
 
-fn percent(p: u32) {
-    answers::decimal(p as u64);
-    text(b" percent");
-    answers::one(1, p, 0);
+fn percent(out: &impl Print, p: u32) -> io::Result<()> {
+    answers::decimal(out, p as u64)?;
+    text(out, b" percent")?;
+    answers::one(out, 1, p, 0)
 }
 
-fn of_percents() {
-    percent(0);
-    percent(1);
-    percent(99);
-    percent(100);
-    percent(4294967295);
+fn of_percents(out: &impl Print) -> io::Result<()> {
+    percent(out, 0)?;
+    percent(out, 1)?;
+    percent(out, 99)?;
+    percent(out, 100)?;
+    percent(out, 4294967295)
 }
 
 const ONE: u64 = 1152921504606846976;
 
 const MOST: u64 = 18446744073709551615;
 
-fn of_totals() {
-    text(b"2^60");
-    answers::two(1, 50, ONE, 0);
-    text(b"2^60 and 1");
-    answers::two(1, 50, ONE, 1);
+fn of_totals(out: &impl Print) -> io::Result<()> {
+    text(out, b"2^60")?;
+    answers::two(out, 1, 50, ONE, 0)?;
+    text(out, b"2^60 and 1")?;
+    answers::two(out, 1, 50, ONE, 1)
 }
 
 // Totals that 64 bits cannot hold, or only just.
-fn of_large_totals() {
-    text(b"2^64 - 1");
-    answers::one(1, 50, MOST);
-    text(b"1 and 2^64 - 1");
-    answers::two(1, 50, 1, MOST);
-    text(b"2^64 - 1 and 2");
-    answers::two(1, 50, MOST, 2);
+fn of_large_totals(out: &impl Print) -> io::Result<()> {
+    text(out, b"2^64 - 1")?;
+    answers::one(out, 1, 50, MOST)?;
+    text(out, b"1 and 2^64 - 1")?;
+    answers::two(out, 1, 50, 1, MOST)?;
+    text(out, b"2^64 - 1 and 2")?;
+    answers::two(out, 1, 50, MOST, 2)
 }
 
-fn order() {
-    text(b"1025 states, 0 percent");
-    answers::one(1025, 0, MOST);
-    text(b"0 percent, 2^64 - 1");
-    answers::one(1, 0, MOST);
+fn order(out: &impl Print) -> io::Result<()> {
+    text(out, b"1025 states, 0 percent")?;
+    answers::one(out, 1025, 0, MOST)?;
+    text(out, b"0 percent, 2^64 - 1")?;
+    answers::one(out, 1, 0, MOST)
 }
 
-pub fn refusals() {
-    text(b"refusals\n");
-    of_lengths();
-    of_counts();
-    of_percents();
-    of_totals();
-    of_large_totals();
-    order();
+pub fn refusals(out: &impl Print) -> io::Result<()> {
+    text(out, b"refusals\n")?;
+    of_lengths(out)?;
+    of_counts(out)?;
+    of_percents(out)?;
+    of_totals(out)?;
+    of_large_totals(out)?;
+    order(out)
 }

@@ -1,13 +1,15 @@
 // Brackets of tables, for every percent from 1 to 99.
 use crate::answers;
 use rules::{Rule, RuleList, ZONES};
+use std::io;
 use table::TableAnswer;
 
-fn every_percent(pmf: &[u64], states: u32) {
+fn every_percent(out: &impl Print, pmf: &[u64], states: u32) -> io::Result<()> {
     for p in 1..100 {
-        answers::decimal(p as u64);
-        answers::answer(bracket::percentile_bracket(pmf, states, p));
+        answers::decimal(out, p as u64)?;
+        answers::answer(out, bracket::percentile_bracket(pmf, states, p))?;
     }
+    Ok(())
 }
 
 fn states_of(a: TableAnswer) -> u32 {
@@ -31,8 +33,8 @@ fn one_rule() -> RuleList {
     RuleList { rules, len: 1 }
 }
 
-pub fn listing() {
-    show::text(b"the listing\n");
+pub fn listing(out: &impl Print) -> io::Result<()> {
+    show::text(out, b"the listing\n")?;
     let mut pmf = [0u64; 4];
     let mut survival = [0u64; 4];
     let answer = table::run_length_table(
@@ -42,7 +44,7 @@ pub fn listing() {
         &mut pmf,
         &mut survival,
     );
-    every_percent(&pmf, states_of(answer));
+    every_percent(out, &pmf, states_of(answer))
 }
 
 // The normal area of each zone in units of 2^-30, to the nearest; S is what is missing from 2^30, and C0 has none.
@@ -52,8 +54,8 @@ fn in_control() -> [u32; ZONES] {
     ]
 }
 
-pub fn western_electric() {
-    show::text(b"Western Electric in control, 400 points\n");
+pub fn western_electric(out: &impl Print) -> io::Result<()> {
+    show::text(out, b"Western Electric in control, 400 points\n")?;
     let mut pmf = [0u64; 400];
     let mut survival = [0u64; 400];
     let answer = table::run_length_table(
@@ -63,5 +65,5 @@ pub fn western_electric() {
         &mut pmf,
         &mut survival,
     );
-    every_percent(&pmf, states_of(answer));
+    every_percent(out, &pmf, states_of(answer))
 }

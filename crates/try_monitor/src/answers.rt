@@ -3,6 +3,7 @@ use monitor::zone::ZoneAnswer;
 use monitor::{Monitor, Step};
 use rules::Checked;
 use show::{number, refusal, text};
+use std::io;
 
 // 2^31.
 const SIGN: u64 = 2147483648;
@@ -12,66 +13,60 @@ fn raised(n: i32) -> u64 {
     ((n as i64) + 2147483648) as u64
 }
 
-pub fn signed(before: &[u8], n: i32) {
+pub fn signed(out: &impl Print, before: &[u8], n: i32) -> io::Result<()> {
     let high = raised(n);
-    text(before);
+    text(out, before)?;
     if high < SIGN {
-        number(b"-", SIGN - high);
+        number(out, b"-", SIGN - high)
     } else {
-        number(b"", high - SIGN);
+        number(out, b"", high - SIGN)
     }
 }
 
-pub fn zoned(answer: ZoneAnswer) {
+pub fn zoned(out: &impl Print, answer: ZoneAnswer) -> io::Result<()> {
     match answer {
         ZoneAnswer::Zone(z) => {
-            number(b" zone ", z as u64);
-            text(b"\n");
+            number(out, b" zone ", z as u64)?;
+            text(out, b"\n")
         }
-        ZoneAnswer::Refused(r) => {
-            refusal(r);
-        }
+        ZoneAnswer::Refused(r) => { refusal(out, r) }
     }
 }
 
-pub fn checked(answer: Checked) {
+pub fn checked(out: &impl Print, answer: Checked) -> io::Result<()> {
     match answer {
-        Checked::Accepted => {
-            text(b" accepted\n");
-        }
-        Checked::Refused(r) => {
-            refusal(r);
-        }
+        Checked::Accepted => { text(out, b" accepted\n") }
+        Checked::Refused(r) => { refusal(out, r) }
     }
 }
 
-pub fn state(m: Monitor) {
-    number(b" state ", m.state);
-    number(b" count ", m.count as u64);
+pub fn state(out: &impl Print, m: Monitor) -> io::Result<()> {
+    number(out, b" state ", m.state)?;
+    number(out, b" count ", m.count as u64)
 }
 
-fn then(before: &[u8], n: u32, m: Monitor) {
-    number(before, n as u64);
-    text(b" then");
-    state(m);
-    text(b"\n");
+fn then(out: &impl Print, before: &[u8], n: u32, m: Monitor) -> io::Result<()> {
+    number(out, before, n as u64)?;
+    text(out, b" then")?;
+    state(out, m)?;
+    text(out, b"\n")
 }
 
 // Prints the answer, and gives the monitor for the next point: the one given where the call was refused.
-pub fn step(given: Monitor, answer: Step) -> Monitor {
+pub fn step(out: &impl Print, given: Monitor, answer: Step) -> io::Result<Monitor> {
     match answer {
         Step::Refused(r) => {
-            refusal(r);
-            given
+            refusal(out, r)?;
+            Ok(given)
         }
         Step::Quiet { count, next } => {
-            then(b" quiet ", count, next);
-            next
+            then(out, b" quiet ", count, next)?;
+            Ok(next)
         }
         Step::Signal { count, mask, next } => {
-            number(b" signal ", count as u64);
-            then(b" mask ", mask, next);
-            next
+            number(out, b" signal ", count as u64)?;
+            then(out, b" mask ", mask, next)?;
+            Ok(next)
         }
     }
 }

@@ -4,6 +4,7 @@ ghost use Rattle.std.specs.Prelude.{◌<◌};
 use crate::answers;
 use rules::RuleList;
 use show::lists;
+use std::io;
 
 const ALL: usize = 24;
 
@@ -47,27 +48,28 @@ fn case_at(i: usize) -> [u64; 10]
     CASES[i]
 }
 
-fn one(case: [u64; 10]) {
+fn one(out: &impl Print, case: [u64; 10]) -> io::Result<()> {
     let other = lists::rule_of(case[7], case[8], case[9]);
-    answers::checked(lists::listed(&case, other).check());
+    answers::checked(out, lists::listed(out, &case, other)?.check())
 }
 
-pub fn run(heading: &[u8]) {
-    show::text(heading);
+pub fn run(out: &impl Print, heading: &[u8]) -> io::Result<()> {
+    show::text(out, heading)?;
     for i in 0..ALL {
-        one(case_at(i));
+        one(out, case_at(i))?;
     }
+    Ok(())
 }
 
-fn ready(l: RuleList) {
-    lists::whole(l);
-    answers::checked(l.check());
+fn ready(out: &impl Print, l: RuleList) -> io::Result<()> {
+    lists::whole(out, l)?;
+    answers::checked(out, l.check())
 }
 
-pub fn ready_lists(heading: &[u8]) {
-    show::text(heading);
-    show::text(b"Western Electric");
-    ready(RuleList::western_electric());
-    show::text(b"Duncan");
-    ready(RuleList::duncan());
+pub fn ready_lists(out: &impl Print, heading: &[u8]) -> io::Result<()> {
+    show::text(out, heading)?;
+    show::text(out, b"Western Electric")?;
+    ready(out, RuleList::western_electric())?;
+    show::text(out, b"Duncan")?;
+    ready(out, RuleList::duncan())
 }

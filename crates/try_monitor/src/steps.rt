@@ -6,6 +6,7 @@ use monitor::Monitor;
 use monitor::zone::{ZoneAnswer, zone_of};
 use rules::{Rule, RuleList};
 use show::lists;
+use std::io;
 
 // What stands in the slots that no case looks at.
 const NONE: Rule = Rule {
@@ -65,62 +66,69 @@ fn case_at(i: usize) -> [u64; 10]
     CASES[i]
 }
 
-fn one(case: [u64; 10]) {
-    let l = lists::listed(&case, NONE);
+fn one(out: &impl Print, case: [u64; 10]) -> io::Result<()> {
+    let l = lists::listed(out, &case, NONE)?;
     let m = Monitor {
         state: case[7],
         count: lists::narrow(case[8]),
     };
-    answers::state(m);
-    show::number(b" zone ", case[9]);
-    answers::step(m, m.step(l, lists::narrow(case[9])));
+    answers::state(out, m)?;
+    show::number(out, b" zone ", case[9])?;
+    answers::step(out, m, m.step(l, lists::narrow(case[9])))?;
+    Ok(())
 }
 
-pub fn run(heading: &[u8], from: usize, to: usize)
+pub fn run(out: &impl Print, heading: &[u8], from: usize, to: usize) -> io::Result<()>
     requires { to ≤ 25 }
 {
-    show::text(heading);
+    show::text(out, heading)?;
     for i in from..to {
-        one(case_at(i));
+        one(out, case_at(i))?;
     }
+    Ok(())
 }
 
 // The zone of a reading on the chart 100,10, and the step there.
-fn reading(m: Monitor, l: RuleList, r: i32) -> Monitor {
+fn reading(out: &impl Print, m: Monitor, l: RuleList, r: i32) -> io::Result<Monitor> {
     let ZoneAnswer::Zone(z) = zone_of(r, 100, 10) else {
-        return m;
+        return Ok(m);
     };
-    answers::signed(b"", r);
-    show::number(b" zone ", z as u64);
-    answers::step(m, m.step(l, z))
+    answers::signed(out, b"", r)?;
+    show::number(out, b" zone ", z as u64)?;
+    answers::step(out, m, m.step(l, z))
 }
 
 // Each reading in turn, from a fresh monitor.
-fn readings(l: RuleList, rs: &[i32]) {
+fn readings(out: &impl Print, l: RuleList, rs: &[i32]) -> io::Result<()> {
     let mut m = Monitor::fresh();
     for i in 0..rs.len() {
-        m = reading(m, l, rs[i]);
+        m = reading(out, m, l, rs[i])?;
     }
+    Ok(())
 }
 
-pub fn example(heading: &[u8]) {
-    show::text(heading);
-    readings(RuleList::western_electric(), &[121, 100, 121, 121, 131]);
+pub fn example(out: &impl Print, heading: &[u8]) -> io::Result<()> {
+    show::text(out, heading)?;
+    readings(
+        out,
+        RuleList::western_electric(),
+        &[121, 100, 121, 121, 131],
+    )
 }
 
 // Two points in A1.
-pub fn early_signal(heading: &[u8]) {
-    show::text(heading);
-    let l = lists::listed(&[2, 3, 2, 0, 0, 0, 1], NONE);
-    show::text(b"\n");
-    readings(l, &[121, 121]);
+pub fn early_signal(out: &impl Print, heading: &[u8]) -> io::Result<()> {
+    show::text(out, heading)?;
+    let l = lists::listed(out, &[2, 3, 2, 0, 0, 0, 1], NONE)?;
+    show::text(out, b"\n")?;
+    readings(out, l, &[121, 121])
 }
 
 // Rule 0 is 2,3 on A1 and rule 1 is 3,9 on A1 and B1. The points are in B1, B1, A1, A1, A1: rule 1 signals, and rule 0
 // forgets its hit too, so one more A1 stays quiet.
-pub fn reset_all(heading: &[u8]) {
-    show::text(heading);
-    let l = lists::listed(&[2, 3, 2, 3, 9, 6, 2], NONE);
-    show::text(b"\n");
-    readings(l, &[111, 111, 121, 121, 121]);
+pub fn reset_all(out: &impl Print, heading: &[u8]) -> io::Result<()> {
+    show::text(out, heading)?;
+    let l = lists::listed(out, &[2, 3, 2, 3, 9, 6, 2], NONE)?;
+    show::text(out, b"\n")?;
+    readings(out, l, &[111, 111, 121, 121, 121])
 }

@@ -3,6 +3,7 @@ ghost use Rattle.std.specs.Prelude.{◌≤◌, ◌<◌};
 
 use crate::answers;
 use monitor::zone::zone_of;
+use std::io;
 
 // A reading, the centre line, sigma.
 #[derive(Clone, Copy)]
@@ -69,18 +70,19 @@ fn case_at(i: usize) -> Case
     CASES[i]
 }
 
-fn one(c: Case) {
-    answers::signed(b"", c.0);
-    answers::signed(b" on ", c.1);
-    show::number(b" sigma ", c.2 as u64);
-    answers::zoned(zone_of(c.0, c.1, c.2));
+fn one(out: &impl Print, c: Case) -> io::Result<()> {
+    answers::signed(out, b"", c.0)?;
+    answers::signed(out, b" on ", c.1)?;
+    show::number(out, b" sigma ", c.2 as u64)?;
+    answers::zoned(out, zone_of(c.0, c.1, c.2))
 }
 
-pub fn run(heading: &[u8], from: usize, to: usize)
+pub fn run(out: &impl Print, heading: &[u8], from: usize, to: usize) -> io::Result<()>
     requires { to ≤ 36 }
 {
-    show::text(heading);
+    show::text(out, heading)?;
     for i in from..to {
-        one(case_at(i));
+        one(out, case_at(i))?;
     }
+    Ok(())
 }

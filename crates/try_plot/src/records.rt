@@ -1,6 +1,7 @@
 // The records.
 use crate::answers;
 use rules::{Rule, RuleList, ZONES};
+use std::io;
 
 // One rule, 2,2 on A1.
 fn two_of_two() -> RuleList {
@@ -39,40 +40,52 @@ fn in_control() -> [u32; ZONES] {
 }
 
 // The lent lists are longer than the horizon: the brackets are of the first places alone.
-pub fn listing() {
+pub fn listing(out: &impl Print) -> io::Result<()> {
     let mut pmf = [1u64; 9];
     let mut survival = [1u64; 9];
-    answers::answer(plot::box_plot(two_of_two(), halves(), 4, &mut pmf, &mut survival));
+    answers::answer(
+        out,
+        plot::box_plot(two_of_two(), halves(), 4, &mut pmf, &mut survival),
+    )
 }
 
-fn thousand(list: RuleList) {
+fn thousand(out: &impl Print, list: RuleList) -> io::Result<()> {
     let mut pmf = [0u64; 1000];
     let mut survival = [0u64; 1000];
-    answers::answer(plot::box_plot(list, in_control(), 1000, &mut pmf, &mut survival));
+    answers::answer(
+        out,
+        plot::box_plot(list, in_control(), 1000, &mut pmf, &mut survival),
+    )
 }
 
-pub fn western_electric() {
-    thousand(RuleList::western_electric());
+pub fn western_electric(out: &impl Print) -> io::Result<()> {
+    thousand(out, RuleList::western_electric())
 }
 
-pub fn duncan() {
-    thousand(RuleList::duncan());
+pub fn duncan(out: &impl Print) -> io::Result<()> {
+    thousand(out, RuleList::duncan())
 }
 
-pub fn one_point() {
+pub fn one_point(out: &impl Print) -> io::Result<()> {
     let mut pmf = [0u64; 1];
     let mut survival = [0u64; 1];
-    answers::answer(plot::box_plot(two_of_two(), halves(), 1, &mut pmf, &mut survival));
+    answers::answer(
+        out,
+        plot::box_plot(two_of_two(), halves(), 1, &mut pmf, &mut survival),
+    )
 }
 
-fn with(weights: [u32; ZONES], horizon: u32) {
+fn with(out: &impl Print, weights: [u32; ZONES], horizon: u32) -> io::Result<()> {
     let mut pmf = [0u64; 2];
     let mut survival = [0u64; 2];
-    answers::answer(plot::box_plot(two_of_two(), weights, horizon, &mut pmf, &mut survival));
+    answers::answer(
+        out,
+        plot::box_plot(two_of_two(), weights, horizon, &mut pmf, &mut survival),
+    )
 }
 
-pub fn refused() {
-    with([0u32; ZONES], 2);
-    with(halves(), 0);
-    with(halves(), 3);
+pub fn refused(out: &impl Print) -> io::Result<()> {
+    with(out, [0u32; ZONES], 2)?;
+    with(out, halves(), 0)?;
+    with(out, halves(), 3)
 }

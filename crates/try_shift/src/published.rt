@@ -2,6 +2,7 @@
 ghost use Rattle.std.specs.Prelude.{◌<◌};
 
 use crate::printed::{LAST, printed_at};
+use std::io;
 
 // In units of 10^-12: probability one and one half.
 const ONE: u64 = 1000000000000;
@@ -34,12 +35,12 @@ fn off(z: usize) -> u64
     distance(ours, theirs)
 }
 
-fn show_area(z: usize)
+fn show_area(out: &impl Print, z: usize) -> io::Result<()>
     requires { z < 451 }
 {
-    show::number(b"area,", z as u64);
-    show::number(b",", shift::area_at(z) as u64);
-    show::text(b"\n");
+    show::number(out, b"area,", z as u64)?;
+    show::number(out, b",", shift::area_at(z) as u64)?;
+    show::text(out, b"\n")
 }
 
 // 1 where an entry is off by at most so much, else 0.
@@ -52,27 +53,28 @@ fn near(z: usize, most: u64) -> u64
 
 // How many they are.
 fn within(most: u64) -> u64 {
-    let mut z = 0;
     let mut count: u64 = 0;
-    while z <= LAST {
+    for z in 0..=LAST {
         count = (count + near(z, most)) % 1000;
-        z += 1;
     }
     count
 }
 
 // Each entry, and then how many are met: the nearest to an area that rounds to what is printed, so at most half a unit of ours and half of the
 // printed last place off. What is printed, rounded once more to our unit, is the entry where it is at most half a unit off.
-pub fn areas() {
-    let mut z = 0;
-    while z <= LAST {
-        show_area(z);
-        z += 1;
+pub fn areas(out: &impl Print) -> io::Result<()> {
+    for z in 0..=LAST {
+        show_area(out, z)?;
     }
     show::number(
+        out,
         b"of the printed table's 451 areas are met: ",
         within((FIVE_12 + TWO_18) / 2),
-    );
-    show::number(b", and rounded to our unit are ours: ", within(FIVE_12 / 2));
-    show::text(b"\n");
+    )?;
+    show::number(
+        out,
+        b", and rounded to our unit are ours: ",
+        within(FIVE_12 / 2),
+    )?;
+    show::text(out, b"\n")
 }

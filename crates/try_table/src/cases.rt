@@ -5,6 +5,7 @@ ghost use Rattle.std.specs.Prelude.{◌≤◌, ◌<◌};
 use crate::answers;
 use rules::{Rule, RuleList, ZONES};
 use show::lists;
+use std::io;
 
 // Where a group of cases ends and the next begins.
 pub const LARGEST: usize = 2;
@@ -81,35 +82,41 @@ fn weights(case: [u64; 14]) -> [u32; ZONES] {
 
 // The table with so many places, up to 65,535.
 pub fn table_of(
+    out: &impl Print,
     list: RuleList,
     w: [u32; ZONES],
     horizon: u32,
     pmf_places: u64,
     survival_places: u64,
-) {
+) -> io::Result<()> {
     let mut pmf = [0u64; 65535];
     let mut survival = [0u64; 65535];
     let p = (pmf_places % 65536) as usize;
     let s = (survival_places % 65536) as usize;
-    answers::answer(table::run_length_table(list, w, horizon, &mut pmf[0..p], &mut survival[0..s]));
+    answers::answer(
+        out,
+        table::run_length_table(list, w, horizon, &mut pmf[0..p], &mut survival[0..s]),
+    )
 }
 
-fn one(case: [u64; 14]) {
-    let list = lists::listed(&case, Rule::new(0, 0, 0));
-    show::numbers(b" weights, horizon and places ", &case[7..14]);
+fn one(out: &impl Print, case: [u64; 14]) -> io::Result<()> {
+    let list = lists::listed(out, &case, Rule::new(0, 0, 0))?;
+    show::numbers(out, b" weights, horizon and places ", &case[7..14])?;
     table_of(
+        out,
         list,
         weights(case),
         lists::narrow(case[11]),
         case[12],
         case[13],
-    );
+    )
 }
 
-pub fn run(from: usize, to: usize)
+pub fn run(out: &impl Print, from: usize, to: usize) -> io::Result<()>
     requires { to ≤ 28 }
 {
     for i in from..to {
-        one(case_at(i));
+        one(out, case_at(i))?;
     }
+    Ok(())
 }

@@ -3,11 +3,12 @@ use crate::cases;
 use crate::listing::weights;
 use rules::{Rule, RuleList};
 use show::lists;
+use std::io;
 
-fn named(name: &[u8], list: RuleList) {
-    show::text(name);
-    lists::whole(list);
-    cases::table_of(list, weights(), 1, 1, 1);
+fn named(out: &impl Print, name: &[u8], list: RuleList) -> io::Result<()> {
+    show::text(out, name)?;
+    lists::whole(out, list)?;
+    cases::table_of(out, list, weights(), 1, 1, 1)
 }
 
 // Before merging, 590 states where no point is on the centre line; over 1,024 with C0.
@@ -28,12 +29,12 @@ fn with_centre() -> RuleList {
     }
 }
 
-pub fn largest(heading: &[u8]) {
-    show::text(heading);
-    named(b"Western Electric", RuleList::western_electric());
-    named(b"Duncan", RuleList::duncan());
-    cases::run(0, cases::LARGEST);
-    named(b"four rules", with_centre());
+pub fn largest(out: &impl Print, heading: &[u8]) -> io::Result<()> {
+    show::text(out, heading)?;
+    named(out, b"Western Electric", RuleList::western_electric())?;
+    named(out, b"Duncan", RuleList::duncan())?;
+    cases::run(out, 0, cases::LARGEST)?;
+    named(out, b"four rules", with_centre())
 }
 
 // Nine in a row in place of eight: 351 states before merging.
@@ -53,14 +54,18 @@ fn first_twice() -> RuleList {
     RuleList { rules, len: 8 }
 }
 
-pub fn merged(heading: &[u8]) {
-    show::text(heading);
-    named(b"Western Electric with nine in a row", with_nine());
-    cases::run(cases::LARGEST, cases::MERGED);
+pub fn merged(out: &impl Print, heading: &[u8]) -> io::Result<()> {
+    show::text(out, heading)?;
+    named(out, b"Western Electric with nine in a row", with_nine())?;
+    cases::run(out, cases::LARGEST, cases::MERGED)
 }
 
-pub fn given_twice(heading: &[u8]) {
-    show::text(heading);
-    named(b"Western Electric, its first rule twice", first_twice());
-    cases::run(cases::MERGED, cases::TWICE);
+pub fn given_twice(out: &impl Print, heading: &[u8]) -> io::Result<()> {
+    show::text(out, heading)?;
+    named(
+        out,
+        b"Western Electric, its first rule twice",
+        first_twice(),
+    )?;
+    cases::run(out, cases::MERGED, cases::TWICE)
 }

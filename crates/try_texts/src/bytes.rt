@@ -21,36 +21,32 @@ pub fn line_end(bytes: &[u8], at: usize) -> usize
 pub fn head(bytes: &[u8], lines: u32) -> usize
     ensures { result ≤ length bytes.now }
 {
-    let mut i = 0;
     let mut left = lines;
-    while i < bytes.len() {
+    for (i, byte) in bytes.iter().enumerate() {
         if left == 0 {
             return i;
         }
-        if bytes[i] == b'\n' {
+        if *byte == b'\n' {
             left -= 1;
         }
-        i += 1;
     }
-    i
+    bytes.len()
 }
 
 // Where the last `lines` lines start.
 pub fn tail(bytes: &[u8], lines: u32) -> usize
     ensures { result ≤ length bytes.now }
 {
-    let mut i = bytes.len();
     let mut left = lines;
-    while i > 0 {
-        if bytes[i - 1] == b'\n' {
+    for (i, byte) in bytes.iter().enumerate().rev() {
+        if *byte == b'\n' {
             if left == 0 {
-                return i;
+                return i + 1;
             }
             left -= 1;
         }
-        i -= 1;
     }
-    i
+    0
 }
 
 fn wide(x: u8) -> u64
@@ -70,10 +66,8 @@ fn mixed(sum: u64, byte: u8) -> u64
 // A number that tells outputs of equal length apart: the bytes as digits of base 257, modulo the largest prime of 32 bits.
 pub fn checksum(bytes: &[u8]) -> u64 {
     let mut sum: u64 = 0;
-    let mut i = 0;
-    while i < bytes.len() {
-        sum = mixed(sum, bytes[i]);
-        i += 1;
+    for byte in bytes {
+        sum = mixed(sum, *byte);
     }
     sum
 }

@@ -1,50 +1,58 @@
 // Tries the reports of the three programs on a folder of texts, good and bad. The file `list` names the texts, a path to a line; those whose
 // path starts with `t` are for the table program, those with `w` for the weights program, all others for the monitor program. What is
 // printed is compared with the file `stdout`.
+#![tactic(auto)]
+
 mod bytes;
 mod reports;
 
+use std::fs::File;
+use std::io::Read;
+use std::rt::Files;
+use std::{io, str};
+
 // The report of a file's text. One byte more than the longest text is read, so that a longer one is told.
-fn opened(path: &[u8], file: i32) {
+fn opened<F: Read>(out: &impl Print, path: &[u8], file: &mut F) -> io::Result<()> {
     let mut text = [0u8; 65537];
-    let n = io::read_full(file, &mut text);
-    libc::close(file);
-    reports::report_by(path, &text[..n]);
+    let n = output::read_input(file, &mut text)?;
+    reports::report_by(out, path, &text[..n])
 }
 
-fn named(path: &[u8]) {
-    show::text(path);
-    show::text(b"\n");
-    let file = os::open_read(path);
-    if file < 0 {
-        show::text(b"cannot be opened\n");
-    } else {
-        opened(path, file);
+// The file, where its path is text and it can be opened.
+fn open<R: Files>(rt: &R, path: &[u8]) -> Option<R::File> {
+    let path = str::from_utf8(path).ok()?;
+    File::open(rt, path).ok()
+}
+
+fn named(rt: &(impl Files + Print), path: &[u8]) -> io::Result<()> {
+    show::text(rt, path)?;
+    show::text(rt, b"\n")?;
+    match open(rt, path) {
+        Some(mut file) => opened(rt, path, &mut file),
+        None => show::text(rt, b"cannot be opened\n"),
     }
 }
 
 // The texts that the list names, in its order.
-fn texts(list: &[u8]) {
+fn texts(rt: &(impl Files + Print), list: &[u8]) -> io::Result<()> {
     let mut at = 0;
     while at < list.len() {
         let end = bytes::line_end(list, at);
-        named(&list[at..end]);
+        named(rt, &list[at..end])?;
         at = end + 1;
     }
+    Ok(())
 }
 
-fn listed(file: i32) {
+fn listed<F: Read>(rt: &(impl Files + Print), file: &mut F) -> io::Result<()> {
     let mut list = [0u8; 65536];
-    let n = io::read_full(file, &mut list);
-    libc::close(file);
-    texts(&list[..n]);
+    let n = output::read_input(file, &mut list)?;
+    texts(rt, &list[..n])
 }
 
-fn main() {
-    let file = os::open_read(b"list");
-    if file < 0 {
-        show::text(b"no list\n");
-    } else {
-        listed(file);
+fn main(rt: HostRuntime) -> io::Result<()> {
+    match open(&rt, b"list") {
+        Some(mut file) => listed(&rt, &mut file),
+        None => show::text(&rt, b"no list\n"),
     }
 }

@@ -1,5 +1,6 @@
 // What each program prints for a text: the whole of it or, where it is long, its start, its end and what tells whether the rest is right.
 use crate::bytes;
+use std::io;
 
 // The most bytes that are shown whole, and the first and the last lines that are shown of more.
 const WHOLE: usize = 400;
@@ -8,44 +9,48 @@ const FIRST: u32 = 3;
 
 const LAST: u32 = 6;
 
-fn measure(out: &[u8]) {
-    show::number(b".. bytes ", out.len() as u64);
-    show::number(b" checksum ", bytes::checksum(out));
-    show::text(b" ..\n");
+fn measure(out: &impl Print, report: &[u8]) -> io::Result<()> {
+    show::number(out, b".. bytes ", report.len() as u64)?;
+    show::number(out, b" checksum ", bytes::checksum(report))?;
+    show::text(out, b" ..\n")
 }
 
-fn ends(out: &[u8]) {
-    let first = bytes::head(out, FIRST);
-    let last = bytes::tail(out, LAST);
-    output::lines(&out[..first]);
-    measure(out);
-    output::lines(&out[last..]);
+fn lines(out: &impl Print, report: &[u8]) -> io::Result<()> {
+    output::lines(&mut io::writer(out), report)
 }
 
-fn written(out: &[u8]) {
-    if out.len() <= WHOLE {
-        output::lines(out);
+fn ends(out: &impl Print, report: &[u8]) -> io::Result<()> {
+    let first = bytes::head(report, FIRST);
+    let last = bytes::tail(report, LAST);
+    lines(out, &report[..first])?;
+    measure(out, report)?;
+    lines(out, &report[last..])
+}
+
+fn written(out: &impl Print, report: &[u8]) -> io::Result<()> {
+    if report.len() <= WHOLE {
+        lines(out, report)
     } else {
-        ends(out);
+        ends(out, report)
     }
 }
 
-fn table(text: &[u8]) {
-    let mut out = [0u8; table_report::TABLE_SIZE];
-    let len = table_report::table_output(text, &mut out);
-    written(&out[..len]);
+fn table(out: &impl Print, text: &[u8]) -> io::Result<()> {
+    let mut report = [0u8; table_report::TABLE_SIZE];
+    let len = table_report::table_output(text, &mut report);
+    written(out, &report[..len])
 }
 
-fn monitor(text: &[u8]) {
-    let mut out = [0u8; monitor_report::MONITOR_SIZE];
-    let len = monitor_report::monitor_output(text, &mut out);
-    written(&out[..len]);
+fn monitor(out: &impl Print, text: &[u8]) -> io::Result<()> {
+    let mut report = [0u8; monitor_report::MONITOR_SIZE];
+    let len = monitor_report::monitor_output(text, &mut report);
+    written(out, &report[..len])
 }
 
-fn weights(text: &[u8]) {
-    let mut out = [0u8; weights_report::WEIGHTS_SIZE];
-    let len = weights_report::weights_output(text, &mut out);
-    written(&out[..len]);
+fn weights(out: &impl Print, text: &[u8]) -> io::Result<()> {
+    let mut report = [0u8; weights_report::WEIGHTS_SIZE];
+    let len = weights_report::weights_output(text, &mut report);
+    written(out, &report[..len])
 }
 
 // A path's first byte; 0 where it has none.
@@ -56,13 +61,13 @@ fn initial(path: &[u8]) -> u8 {
     path[0]
 }
 
-pub fn report_by(path: &[u8], text: &[u8]) {
+pub fn report_by(out: &impl Print, path: &[u8], text: &[u8]) -> io::Result<()> {
     let first = initial(path);
     if first == b't' {
-        table(text);
+        table(out, text)
     } else if first == b'w' {
-        weights(text);
+        weights(out, text)
     } else {
-        monitor(text);
+        monitor(out, text)
     }
 }
