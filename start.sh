@@ -9,9 +9,9 @@ bash scripts/needs.sh rt bc
 echo "Proving and building runs_table, runs_monitor and runs_weights: some minutes the first time." >&2
 mkdir -p target
 log=target/start.log
-if ! rt check runs_table runs_monitor runs_weights >"$log" 2>&1; then
+if ! bash scripts/programs.sh >"$log" 2>&1; then
   tail -n 30 "$log" >&2
-  echo "rt check failed; all that it said is in $log." >&2
+  echo "The programs were not built; all that was said is in $log." >&2
   exit 1
 fi
 

@@ -8,7 +8,7 @@ bin=../target/bin
 
 for program in runs_table runs_monitor runs_weights; do
   if [ ! -x "$bin/$program" ]; then
-    echo "target/bin/$program is missing: build it with 'rt check' at the root of the repository" >&2
+    echo "target/bin/$program is missing: build it with 'bash scripts/programs.sh' at the root of the repository" >&2
     exit 1
   fi
 done

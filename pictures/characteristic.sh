@@ -61,7 +61,7 @@ for text in "$title" "${labels[@]}"; do
   [[ $text != *[[:cntrl:]]* ]] || say "a label or title has a control character"
 done
 for program in runs_weights runs_table; do
-  [ -x "$bin/$program" ] || say "target/bin/$program is missing: build it with 'rt check' at the root of the repository"
+  [ -x "$bin/$program" ] || say "target/bin/$program is missing: build it with 'bash scripts/programs.sh' at the root of the repository"
 done
 start_work
 

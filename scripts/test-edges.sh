@@ -11,7 +11,7 @@ export LC_ALL=C
 
 for name in runs_table runs_monitor runs_weights; do
   if [ ! -x "target/bin/$name" ]; then
-    echo "target/bin/$name is missing: build it with 'rt check' at the root of the repository" >&2
+    echo "target/bin/$name is missing: build it with 'bash scripts/programs.sh' at the root of the repository" >&2
     exit 1
   fi
 done
@@ -480,11 +480,11 @@ check "needs: a new cargo" 0 '' ''
 
 # scripts/library.sh --check, in a small repository with a command rt that only makes a file, and called from another folder.
 toy=$work/toy
-mkdir -p "$toy/scripts" "$toy/crates/capi" "$toy/bin"
+mkdir -p "$toy/scripts" "$toy/crates/capi_c" "$toy/bin"
 cp scripts/library.sh "$toy/scripts/"
-echo 'capi:' >"$toy/crates.txt"
-echo one >"$toy/crates/capi/one"
-printf '#!/bin/sh\nmkdir -p target/staticlib && echo made >target/staticlib/libcapi.a\n' >"$toy/bin/rt"
+echo 'capi_c staticlib:' >"$toy/crates.txt"
+echo one >"$toy/crates/capi_c/one"
+printf '#!/bin/sh\nmkdir -p out && echo made >out/libcapi_c.a\n' >"$toy/bin/rt"
 chmod +x "$toy/bin/rt"
 library() { run env PATH="$toy/bin:$PATH" bash -c 'cd / && bash "$@"' - "$toy/scripts/library.sh" "$@"; }
 remedy="run 'bash scripts/library.sh' at the root of the repository."
@@ -494,7 +494,7 @@ library
 check "library: made" 0 '' ''
 library --check
 check "library: there" 0 '' ''
-echo two >"$toy/crates/capi/one"
+echo two >"$toy/crates/capi_c/one"
 library --check
 check "library: made from other crates" 1 '' \
   "The library target/staticlib/libcapi.a was built from other crates than those that are here now: $remedy"
