@@ -116,14 +116,14 @@ for name in runs_table runs_monitor runs_weights; do
 
   # What is read.
   run "$program" <&-
-  check "$name: closed input" 0 '' 'standard input: Bad file descriptor'
+  check "$name: closed input" 1 '' 'Error: standard input: Bad file descriptor (os error 9)'
   run "$program" <"$work"
-  check "$name: a directory as input" 0 '' 'standard input: Is a directory'
+  check "$name: a directory as input" 1 '' 'Error: standard input: Is a directory (os error 21)'
   exec 3<>"$work/fifo"
   dd iflag=nonblock count=0 status=none <&3
   run "$program" <&3
   exec 3<&-
-  check "$name: a pipe that is empty and does not wait" 0 '' 'standard input: Resource temporarily unavailable'
+  check "$name: a pipe that is empty and does not wait" 1 '' 'Error: standard input: Resource temporarily unavailable (os error 11)'
   run "$program" </dev/null
   check "$name: no text at all" 0 'refused,16,1' ''
   run "$program" < <(drip "crates/$name/stdin")
@@ -140,21 +140,21 @@ for name in runs_table runs_monitor runs_weights; do
   # What is written.
   exec 3<>"$work/fifo" 4>"$work/fifo" 3>&-
   run_to_4 env --default-signal=PIPE "$program" <"$text.txt"
-  check "$name: a closed pipe as output, SIGPIPE as usual" 141 '' ''
+  check "$name: a closed pipe as output, SIGPIPE as usual" 1 '' 'Error: standard output: Broken pipe (os error 32)'
   run_to_4 env --ignore-signal=PIPE "$program" <"$text.txt"
-  check "$name: a closed pipe as output, SIGPIPE ignored" 0 '' 'standard output: Broken pipe'
+  check "$name: a closed pipe as output, SIGPIPE ignored" 1 '' 'Error: standard output: Broken pipe (os error 32)'
   run_to_4 env --ignore-signal=PIPE "$program" </dev/null
-  check "$name: a refusal into a closed pipe, SIGPIPE ignored" 0 '' 'standard output: Broken pipe'
+  check "$name: a refusal into a closed pipe, SIGPIPE ignored" 1 '' 'Error: standard output: Broken pipe (os error 32)'
   exec 4>/dev/full
   run_to_4 "$program" <"$text.txt"
-  check "$name: a full device as output" 0 '' 'standard output: No space left on device'
+  check "$name: a full device as output" 1 '' 'Error: standard output: No space left on device (os error 28)'
   run_to_4 "$program" </dev/null
-  check "$name: a refusal to a full device" 0 '' 'standard output: No space left on device'
+  check "$name: a refusal to a full device" 1 '' 'Error: standard output: No space left on device (os error 28)'
   exec 4>&-
   status=0
   : >"$work/out"
   "$program" <"$text.txt" 2>"$work/err" >&- || status=$?
-  check "$name: closed output" 0 '' 'standard output: Bad file descriptor'
+  check "$name: closed output" 1 '' 'Error: standard output: Bad file descriptor (os error 9)'
   exec 3<>"$work/fifo" 4>"$work/fifo" 5<"$work/fifo" 3>&-
   dd oflag=nonblock count=0 status=none >&4 </dev/null
   # The one line of the weights program fills no pipe: zeros do, which are taken out again.
@@ -164,7 +164,7 @@ for name in runs_table runs_monitor runs_weights; do
   if [ $name = runs_weights ]; then tr -d '\0' <&5 >"$work/out"; else cat <&5 >"$work/out"; fi
   exec 5<&-
   head -c "$(wc -c <"$work/out")" "$long.$name" >"$work/cut"
-  check "$name: a pipe as output that is full and does not wait" 0 "@$work/cut" 'standard output: Resource temporarily unavailable'
+  check "$name: a pipe as output that is full and does not wait" 1 "@$work/cut" 'Error: standard output: Resource temporarily unavailable (os error 11)'
   if cmp -s "$work/cut" "$long.$name"; then
     echo "FAILED $name: the pipe took all that there was"
     exit 1
@@ -182,16 +182,16 @@ for name in runs_table runs_monitor runs_weights; do
   faulty read-interrupted
   check "$name: interrupted reads" 0 "@$text.out" ''
   faulty read-never
-  check "$name: reads that are interrupted without end" 0 '' 'standard input: Interrupted system call'
+  check "$name: reads that are interrupted without end" 1 '' 'Error: standard input: operation interrupted'
   faulty read-breaks-off
-  check "$name: an input that breaks off behind a whole text" 0 '' 'standard input: Input/output error'
+  check "$name: an input that breaks off behind a whole text" 1 '' 'Error: standard input: Input/output error (os error 5)'
   faulty write-interrupted
   check "$name: interrupted writes" 0 "@$text.out" ''
   faulty write-short
   check "$name: writes that take a part" 0 "@$text.out" ''
   faulty write-breaks-off
   head -c 7 "$text.out" >"$work/cut"
-  check "$name: an output that breaks off" 0 "@$work/cut" 'standard output: Input/output error'
+  check "$name: an output that breaks off" 1 "@$work/cut" 'Error: standard output: Input/output error (os error 5)'
 
   # Too much to read: the program stops at 65,537 bytes.
   run timeout 300 "$program" < <(yes point,0,50000 2>/dev/null | head -c 100000000 2>/dev/null)
@@ -210,7 +210,7 @@ check "runs_monitor: a text without points and without its last LF" 0 "refused,1
 FAULT=read-interrupted LD_PRELOAD=$work/faults.so run target/bin/runs_monitor <"$none"
 check "runs_monitor: a text without points, interrupted reads" 0 '' ''
 FAULT=read-breaks-off LD_PRELOAD=$work/faults.so run target/bin/runs_monitor <"$none"
-check "runs_monitor: a text without points whose input breaks off" 0 '' 'standard input: Input/output error'
+check "runs_monitor: a text without points whose input breaks off" 1 '' 'Error: standard input: Input/output error (os error 5)'
 exec 4>/dev/full
 run_to_4 target/bin/runs_monitor <"$none"
 exec 4>&-

@@ -47,4 +47,8 @@ module _ (t : TableCall) (f : TableFigures) (accepted : (table_of t).answer ≡ 
 
   -- In one word: no such chart has fewer than N states.
   pub none_fewer_states : NoneFewer (rules_of t) f.state_count
-  none_fewer_states = record { longer = λ {B} b xs holds same. fewest_states b xs holds same }
+  none_fewer_states = record {
+    longer = λ {B} b xs holds same.
+        rw call.count_is
+        (chain_fewest (rules_of t) call.chain.few call.chain.bounds b xs holds (first_future (reference_automaton (rules_of t)) b same));
+  }
