@@ -1,7 +1,7 @@
 #!/usr/bin/env python3
 """The reading order is closed: whoever reads the claims and what must be believed never needs a definition that is not marked.
 
-The first line of a file of specs/ marks it. TO BELIEVE: its definitions must be believed. CLAIM or CLAIMS: its statements are proved of them.
+The first line of a file of definitions, claims or laws marks it. TO BELIEVE: its definitions must be believed. CLAIM or CLAIMS: its statements are proved of them.
 BY CONTRACT: what a function's contract is an equation with, of which a claim says what it is; it is named and need not be believed. Any other file is
 on the way. A part of a file under a heading `-- ---- working` or `-- ---- by contract` counts as that, up to the next heading.
 
@@ -15,19 +15,19 @@ import sys
 from pathlib import Path
 
 MAP = Path("docs/ARCHITECTURE.md")
-TOKEN = re.compile(r"[^\s(){},;.«»⌜⌝]+")
-USE = re.compile(r"^use (Rattle·\S+?)(?:\.\{(.*)\})?(?: as (\S+))?$")
+TOKEN = re.compile(r"[^\s(){},;.«»]+")
+USE = re.compile(r"^use (Rattle\.\S+?)(?:\.\{(.*)\})?(?: as (\S+))?$")
 DEFINES = re.compile(r"^(?:(?:abbrev|unfoldable) )?pub (?:(?:data|record) )?(\S+)")
 MEMBER = re.compile(r"^\s+(?:pub )?([^\s:()]+(?: [^\s:()]+)*) : ")
 PARTS = {"working": "working", "by contract": "contract"}
 
 
 def file_of(module):
-    """the file of `Rattle·table.specs.Table` or `Rattle·table·specs.specs.Table`; None for what the code declares"""
+    """the file of `Rattle.table.specs.Table` or `Rattle.table.proofs.TableLaws`; None for the kit's and for what the code declares"""
     parts = module.split(".")
-    if "declared" in parts or "proofs" in parts:
+    if parts[1] == "std" or "declared" in parts or "contracts" in parts:
         return None
-    return Path("crates") / parts[0].split("·")[1] / "specs" / ("/".join(parts[2:]) + ".antt")
+    return Path("crates") / parts[1] / parts[2] / ("/".join(parts[3:]) + ".antt")
 
 
 class File:
@@ -120,17 +120,18 @@ def reading_order():
     section = MAP.read_text().split("## Reading order", 1)[1].split("\n## ", 1)[0]
     listed, crate = set(), None
     for token in re.findall(r"`([^`\s]+)`", section):
-        whole = re.fullmatch(r"crates/(\w+)/specs(?:/(\w+)\.antt)?", token)
+        whole = re.fullmatch(r"crates/(\w+)/(?:specs|proofs)(?:/(\w+)\.antt)?", token)
         if whole and whole[2]:
             listed.add(Path(token))
         elif whole:
             crate = whole[1]
-        elif crate and (Path("crates") / crate / "specs" / f"{token}.antt").exists():
-            listed.add(Path("crates") / crate / "specs" / f"{token}.antt")
+        elif crate:
+            # laws and claims that rest on a definition which an edit changes stand in proofs/
+            listed.update(path for part in ("specs", "proofs") if (path := Path("crates") / crate / part / f"{token}.antt").exists())
     return listed, " ".join(section.split())
 
 
-files = {path: File(path) for path in sorted(Path("crates").glob("*/specs/**/*.antt"))}
+files = {path: File(path) for part in ("specs/**", "proofs") for path in sorted(Path("crates").glob(f"*/{part}/*.antt"))}
 failed = False
 
 

@@ -1,5 +1,4 @@
--- Document 01's round-down steps by state, over the states that differ, whatever number each of them has. Working definitions: what the figures are
--- is said over rows of the plain chart (`ByRow` of the claims).
+-- TO BELIEVE: document 01's round-down steps by STATE, over the states that differ, whatever number each of them has. Definitions.
 use Rattle.std.specs.Prelude.{ℕ, zero, suc, ◌*◌, ◌/◌, Bool, List, eqb, length}
 use Rattle.rules.specs.declared.Rule.{Rule}
 use Rattle.rules.specs.Bounds.{zone_count}

@@ -2,9 +2,9 @@
 // refusals at the bounds; and every shift through the run-length table. What it prints is compared with the file `stdout`.
 #![tactic(auto)]
 
+mod papers;
 mod printed;
 mod published;
-mod sources;
 mod tables;
 mod weights;
 
@@ -12,7 +12,7 @@ use std::io;
 
 fn main(rt: HostRuntime) -> io::Result<()> {
     published::areas(&rt)?;
-    sources::figures(&rt)?;
+    papers::figures(&rt)?;
     weights::bounds(&rt)?;
     tables::every_shift(&rt)
 }
