@@ -12,17 +12,17 @@ use Rattle.plot.specs.Shown.{ShowsSpread}
 use Rattle.claims.specs.Exact.{exact_mean, reached}
 use Rattle.claims.specs.Plotted.{bracket_in, ItemOf, QuartileDifference, lower_of, upper_of}
 use Rattle.claims.proofs.BoxPlotLaws.{difference_of}
-use Rattle.claims.proofs.BoxPlotLaws.{items_contain as items-contain-proved, quartiles_shown as quartiles-shown-proved, mean_values as mean-values-proved}
-use Rattle.claims.proofs.BoxPlotLaws.{mean_within as mean-within-proved}
+use Rattle.claims.proofs.BoxPlotLaws.{items_contain as items_contain_proved, quartiles_shown as quartiles_shown_proved, mean_values as mean_values_proved}
+use Rattle.claims.proofs.BoxPlotLaws.{mean_within as mean_within_proved}
 
 module _ (t : TableCall) (r : PlotRecord) (accepted : (box_plot_of t).answer ≡ BoxPlotAnswer.Accepted r) where
   -- Each item is of the bracket of exactly these chances, and contains its true percentile.
   pub items_contain : ItemOf t 5 r.p5 × ItemOf t 25 r.p25 × ItemOf t 50 r.p50 × ItemOf t 75 r.p75 × ItemOf t 95 r.p95
-  items_contain = items-contain-proved t r accepted
+  items_contain = items_contain_proved t r accepted
 
   -- Where the brackets of 25 and 75 are points, their difference is held, exactly; else 0, and a mark that there is none.
   pub quartiles_shown : ShowsSpread (point_of (bracket_in t 25)) (point_of (bracket_in t 75)) r
-  quartiles_shown = quartiles-shown-proved t r accepted
+  quartiles_shown = quartiles_shown_proved t r accepted
 
   -- Where it is held, it is the difference of the two true percentiles.
   pub quartile_difference : r.has_iqr ≡ true → QuartileDifference (reached (rules_of t) t.weights 25) (reached (rules_of t) t.weights 75) r
@@ -31,9 +31,9 @@ module _ (t : TableCall) (r : PlotRecord) (accepted : (box_plot_of t).answer ≡
 
   -- Lower is the table's mean rounded down to 2^-36, upper the mean with its error bound rounded up to 2^-36: both are exact doubles.
   pub mean_values : HasValue r.lower false (lower_of t) parts_per_one × HasValue r.upper false (upper_of t) parts_per_one
-  mean_values = mean-values-proved t r accepted
+  mean_values = mean_values_proved t r accepted
 
   -- The exact mean of the run length cut at H lies from lower to upper.
   pub mean_within : (lower_of t * weight_total ^ t.horizon ≤ exact_mean (rules_of t) t.weights t.horizon * parts_per_one)
       × (exact_mean (rules_of t) t.weights t.horizon * parts_per_one ≤ upper_of t * weight_total ^ t.horizon)
-  mean_within = mean-within-proved t r accepted
+  mean_within = mean_within_proved t r accepted

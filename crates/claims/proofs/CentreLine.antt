@@ -16,7 +16,7 @@ use Rattle.monitor.specs.Step.{fresh_monitor}
 use Rattle.window.specs.ReferenceChart.{rule_holds}
 use Rattle.monitor.specs.Calls.{monitor_answers}
 use Rattle.claims.specs.Centre.{OffCentre, on_centre, QuietOnCentre}
-use Rattle.claims.proofs.CentreLineLaws.{only_on_centre as only-on-centre-proved, centre_no_hit as centre-no-hit-proved, quiet_on_centre as quiet-on-centre-proved}
+use Rattle.claims.proofs.CentreLineLaws.{only_on_centre as only_on_centre_proved, centre_no_hit as centre_no_hit_proved, quiet_on_centre as quiet_on_centre_proved}
 
 -- ---- the zone of a reading: C0 exactly where t = 0
 
@@ -26,7 +26,7 @@ module _ (sigma : ℕ) (fits : within min_sigma max_sigma sigma ≡ true) where
   on_centre_lem c = zone_fits c c sigma fits ∙ ap (λ (t : ℤ). Zone (zone_at t sigma)) (+ℤ_invr c)
 
   pub only_on_centre : (r c : ℤ) → zone_of r c sigma ≡ Zone zone_c0 → r ≡ c
-  only_on_centre = only-on-centre-proved sigma fits
+  only_on_centre = only_on_centre_proved sigma fits
 
 -- ---- the ready lists: C0 is in no set of theirs
 
@@ -43,7 +43,7 @@ duncan_off_centre = (refl, (refl, (refl, (refl, (refl, tt)))))
 module _ (r : Rule) (off : in_zone_set r.zones zone_c0 ≡ 0) where
   -- Where the rule holds, at most m - k of the last m points are on the centre line.
   pub centre_no_hit : (row : List ℕ) → rule_holds row r ≡ true → r.k + on_centre (take r.m row) ≤ r.m
-  centre_no_hit = centre-no-hit-proved r off
+  centre_no_hit = centre_no_hit_proved r off
 
   -- So with k = m, as in eight points in a row above the line, none of them is.
   pub in_a_row_off_centre : r.k ≡ r.m → (row : List ℕ) → rule_holds row r ≡ true → on_centre (take r.m row) ≡ 0
@@ -59,7 +59,7 @@ eight_below = in_a_row_off_centre (rule_of 8 8 112) refl refl
 module _ (l : RuleList) (a : check_of l ≡ Accepted) (off : OffCentre (active_rules l)) where
   -- In every list of calls with such a rule list, from a fresh monitor, no point on the centre line signals.
   pub quiet_on_centre : (zs : List ℕ) → QuietOnCentre zs (monitor_answers l fresh_monitor zs)
-  quiet_on_centre = quiet-on-centre-proved l a off
+  quiet_on_centre = quiet_on_centre_proved l a off
 
 -- So it is with the ready lists.
 pub western_electric_quiet : (zs : List ℕ) → QuietOnCentre zs (monitor_answers western_electric fresh_monitor zs)

@@ -13,7 +13,7 @@ use Rattle.runlength.specs.Chain.{cdf, cdf_of}
 use Rattle.runlength.specs.Future.{EqualFuture}
 use Rattle.monitor.specs.Step.{fresh_monitor}
 use Rattle.monitor.specs.Calls.{monitor_answers}
-use Rattle.monitor.proofs.AgreementLaws.{monitor_agrees, mask_names_rules as mask-names-rules-proved}
+use Rattle.monitor.proofs.AgreementLaws.{monitor_agrees, mask_names_rules as mask_names_rules_proved}
 use Rattle.states.specs.States.{Met, states}
 use Rattle.states.specs.Automata.{state_automaton}
 use Rattle.chain.specs.TableChain.{explored_count, state_count}
@@ -40,7 +40,7 @@ monitor_names l accepted zs = rw (monitor_agrees l accepted zs) (chart_answered 
 
 -- Bit i of the mask is set exactly when rule i's T(k,m,Z) holds over the row.
 pub mask_names_rules : (rs : List Rule) (row : List ℕ) (i : ℕ) → i < length rs → row_mask rs row / 2 ^ i % 2 ≡ bit (rule_holds row (get_or rs i no_rule))
-mask_names_rules = mask-names-rules-proved
+mask_names_rules = mask_names_rules_proved
 
 -- ---- the table: every figure of an accepted call is that of the round-down steps over rows of the plain chart, one of each future
 

@@ -20,8 +20,8 @@ use Rattle.runlength.proofs.PercentileLaws.{never_percentile}
 use Rattle.monitor.specs.Step.{fresh_monitor}
 use Rattle.window.specs.ReferenceChart.{chart_answers}
 use Rattle.monitor.specs.Calls.{monitor_answers, refusal_number, Said, EachAnswer}
-use Rattle.monitor.proofs.AgreementLaws.{no_call_gets_5, no_refused_call as no-refused-call-proved}
-use Rattle.monitor.proofs.AgreementLaws.{monitor_agrees as monitor-agrees-proved}
+use Rattle.monitor.proofs.AgreementLaws.{no_call_gets_5, no_refused_call as no_refused_call_proved}
+use Rattle.monitor.proofs.AgreementLaws.{monitor_agrees as monitor_agrees_proved}
 use Rattle.table.specs.declared.TableFigures.{TableFigures}
 use Rattle.table.specs.declared.TableAnswer.{TableAnswer}
 use Rattle.table.specs.Table.{TableCall, rules_of, chain_of, table_of, pmf_of, mean_of}
@@ -44,7 +44,7 @@ module _ (l : RuleList) (accepted : check_of l ≡ Accepted) where
   -- For every list of monitor calls, from a fresh monitor and refused calls included, the answers are those of the plain chart: refusal
   -- number, quiet or signal, count and mask.
   pub monitor_agrees : (zs : List ℕ) → monitor_answers l fresh_monitor zs ≡ chart_answers (active_rules l) [] zs
-  monitor_agrees = monitor-agrees-proved l accepted
+  monitor_agrees = monitor_agrees_proved l accepted
 
   -- So no call gets 5.
   pub monitor_never_5 : (zs : List ℕ) → EachAnswer (λ a. refusal_number a ≡ 5 → ⊥) (monitor_answers l fresh_monitor zs)
@@ -52,7 +52,7 @@ module _ (l : RuleList) (accepted : check_of l ≡ Accepted) where
 
   -- In a list of at most 2^32 - 1 calls whose zones all exist no call is refused: each is answered quiet or signal.
   pub no_refused_call : (zs : List ℕ) → AllBelow zone_count zs → length zs ≤ max_number → EachAnswer Said (monitor_answers l fresh_monitor zs)
-  no_refused_call = no-refused-call-proved l accepted
+  no_refused_call = no_refused_call_proved l accepted
 
   module _ (n : ℕ) (n-max : n ≤ max_horizon) where
     -- A call list with a sequence of n zones has no refused call: each answer is quiet or signal.

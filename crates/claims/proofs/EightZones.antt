@@ -20,8 +20,8 @@ use Rattle.claims.specs.Centre.{each_zone, adds_to_sum, adds_to_mean, drawn}
 use Rattle.claims.specs.InsideLaws.{only_none}
 use Rattle.claims.specs.Centre.{seven_zones}
 use Rattle.claims.proofs.EightZonesLaws.{zone_by_zone, left_out, no_product}
-use Rattle.claims.proofs.EightZonesLaws.{weightless_chance as weightless-chance-proved, weightless_left as weightless-left-proved, weightless_survival as weightless-survival-proved}
-use Rattle.claims.proofs.EightZonesLaws.{weightless_cut_mean as weightless-cut-mean-proved, weightless_count as weightless-count-proved}
+use Rattle.claims.proofs.EightZonesLaws.{weightless_chance as weightless_chance_proved, weightless_left as weightless_left_proved, weightless_survival as weightless_survival_proved}
+use Rattle.claims.proofs.EightZonesLaws.{weightless_cut_mean as weightless_cut_mean_proved, weightless_count as weightless_count_proved}
 
 module _ (rs : List Rule) (w : List ℕ) where
   -- The exact sum at n draws on all eight zones at each of its n points: it is what all sequences of n zones add; what
@@ -64,16 +64,16 @@ module _ (t : TableCall) (f : TableFigures) (accepted : (table_of t).answer ≡ 
   -- steps over the states that the seven other zones meet, among those that differ by all eight. N alone, and what goes by
   -- it, may be larger.
   pub weightless_chance : (n : ℕ) → n < t.horizon → at (table_of t).pmf_list n ≡ pmf (seven_zones t) (suc n)
-  weightless_chance = weightless-chance-proved t f accepted weightless
+  weightless_chance = weightless_chance_proved t f accepted weightless
 
   pub weightless_left : (n : ℕ) → n < t.horizon → at (table_of t).survival_list n ≡ survival (seven_zones t) (suc n)
-  weightless_left = weightless-left-proved t f accepted weightless
+  weightless_left = weightless_left_proved t f accepted weightless
 
   pub weightless_survival : f.survival ≡ survival (seven_zones t) t.horizon
-  weightless_survival = weightless-survival-proved t f accepted weightless
+  weightless_survival = weightless_survival_proved t f accepted weightless
 
   pub weightless_cut_mean : mean_of f ≡ restricted_mean (seven_zones t) t.horizon
-  weightless_cut_mean = weightless-cut-mean-proved t f accepted weightless
+  weightless_cut_mean = weightless_cut_mean_proved t f accepted weightless
 
   pub weightless_count : (seven_zones t).size ≤ f.state_count
-  weightless_count = weightless-count-proved t f accepted weightless
+  weightless_count = weightless_count_proved t f accepted weightless

@@ -14,8 +14,8 @@ use Rattle.table.specs.declared.TableAnswer.{TableAnswer}
 use Rattle.table.specs.Table.{TableCall, chain_check, table_check, table_of}
 use Rattle.shift.specs.declared.ShiftAnswer.TheVariants.{Accepted}
 use Rattle.shift.specs.Shift.{shift_of}
-use Rattle.claims.specs.ShiftedCoreLaws.{weights_pass as weights-pass-proved, chain_never_eight as chain-never-eight-proved, never_eight as never-eight-proved}
-use Rattle.claims.specs.ShiftedCoreLaws.{table_never_eight as table-never-eight-proved}
+use Rattle.claims.specs.ShiftedCoreLaws.{weights_pass as weights_pass_proved, chain_never_eight as chain_never_eight_proved, never_eight as never_eight_proved}
+use Rattle.claims.specs.ShiftedCoreLaws.{table_never_eight as table_never_eight_proved}
 
 module _ (s : ℤ) (w : ZoneWeights) (ok : shift_of s ≡ Accepted w) where
   -- A chart with these weights is checked as if there were no check of weights: 2, 3, 4; 9; 10.
@@ -23,16 +23,16 @@ module _ (s : ℤ) (w : ZoneWeights) (ok : shift_of s ≡ Accepted w) where
       ≡ or_else (check_of l)
       (or_else (unless (within min_horizon max_horizon h) bad_horizon)
       (unless (leb (explored_count (active_rules l)) max_states) (too_many_states 0)))
-  weights_pass = weights-pass-proved s w ok
+  weights_pass = weights_pass_proved s w ok
 
   -- So no chart, and no call of the table, with them is refused by 8.
   pub chain_never_eight : (l : RuleList) (h : ℕ) (x : Refusal) → chain_check l (weight_list w) h ≡ Refused x → x.number ≡ bad_weights.number → ⊥
-  chain_never_eight = chain-never-eight-proved s w ok
+  chain_never_eight = chain_never_eight_proved s w ok
 
   pub never_eight : (t : TableCall) (x : Refusal) → t.weights ≡ weight_list w → table_check t ≡ Refused x → x.number ≡ bad_weights.number → ⊥
-  never_eight = never-eight-proved s w ok
+  never_eight = never_eight_proved s w ok
 
   -- Nor is the answer of the table operation itself.
   pub table_never_eight : (t : TableCall) (x : Refusal) → t.weights ≡ weight_list w → (table_of t).answer ≡ TableAnswer.Refused x
       → x.number ≡ bad_weights.number → ⊥
-  table_never_eight = table-never-eight-proved s w ok
+  table_never_eight = table_never_eight_proved s w ok

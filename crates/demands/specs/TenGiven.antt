@@ -11,11 +11,11 @@ use Rattle.table.specs.Table.{table_call, table_of}
 use Rattle.claims.specs.Counted.{TooManyStates}
 use Rattle.claims.proofs.Demand1.{refused_by_10}
 use Rattle.demands.specs.TwiceInNine.{twice_in_nine}
-use Rattle.demands.specs.TenGivenLaws.{in_bounds, ten_given as ten-given-proved}
+use Rattle.demands.specs.TenGivenLaws.{in_bounds, ten_given as ten_given_proved}
 
 -- This list has more states than are taken.
 pub ten_given : TooManyStates (active_rules twice_in_nine)
-ten_given = ten-given-proved
+ten_given = ten_given_proved
 
 -- With every weights and every horizon that are accepted, and whatever lists are lent, the table answers 10 for it.
 pub ten_answered : (w : List ℕ) (h : ℕ) (p s : List ℕ) → sum zone_count (at w) ≡ weight_total → min_horizon ≤ h

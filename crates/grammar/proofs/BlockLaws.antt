@@ -17,7 +17,8 @@ use Rattle.grammar.specs.TextReading.{on_seen, values_at, seen_kind, seen, many_
 use Rattle.grammar.specs.Read.{Seen, found, other}
 use Rattle.grammar.specs.TextReading.{also, read_at}
 use Rattle.grammar.specs.Read.{read, stopped}
-use Rattle.grammar.proofs.FormLaws.{Look, looked, least, form_ahead}
+use Rattle.grammar.specs.FewestBytes.{least}
+use Rattle.grammar.proofs.FormLaws.{Look, looked, form_ahead}
 
 -- where a word stands, no line stands whose word begins with another letter
 pub other_word : (s : List ℕ) (i a p : ℕ) (w : List ℕ) → word_at (a ∷ w) s i ≡ At p → (b : ℕ) (v : List ℕ) (fs : List Field) → (a ≡ b → ⊥)

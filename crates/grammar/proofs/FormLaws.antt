@@ -9,12 +9,13 @@ use Rattle.decimal.specs.SpansLaws.{spans_within}
 use Rattle.grammar.specs.LineValues.{Field, Values, values_bytes, ValuesFit}
 use Rattle.grammar.specs.Form.{Kind, named, Says, Saying, line_bytes, LineFits, bytes_said, Fits}
 use Rattle.grammar.specs.Form.{Form, line, either, Said, saying}
+use Rattle.grammar.specs.FewestBytes.{least_of, least}
 use Rattle.grammar.specs.Clear.{word_number}
 use Rattle.grammar.specs.Told.{Letters, Proper, Agree}
 use Rattle.grammar.specs.Blocks.{Begins}
 use Rattle.grammar.specs.TextReading.{on_seen, values_at, seen_kind, or_seen, seen}
 use Rattle.grammar.specs.Read.{Seen, found, other}
-use Rattle.grammar.proofs.LineValuesLaws.{WordValuesAre, word_values_are, word_values_read, least_values, values_long, newlines_values}
+use Rattle.grammar.proofs.LineValuesLaws.{WordValuesAre, word_values_are, word_values_read, values_long, newlines_values}
 use Rattle.grammar.proofs.LineValuesLaws.{Begun, values_begun, word_once, fields_told}
 
 -- ---- a line stands in a text, up to the offset `next`
@@ -24,10 +25,6 @@ pub record Stands (s : List ℕ) (at : ℕ) (m : Saying) (next : ℕ) : Type 0 w
   pub fits : Fits m
 
 -- ---- of every kind
-
--- the fewest bytes of a line
-abbrev pub least_of : Kind → ℕ
-least_of (named w fs) = length w + least_values fs
 
 -- it reaches ahead, within the text
 pub tells_ahead : {s : List ℕ} {at next : ℕ} (k : Kind) (x : Says k) → Stands s at (k, x) next
@@ -130,11 +127,6 @@ pub some_bytes : (m : Saying) (a : List ℕ) → Fits m → [] ≡ bytes_said m 
 some_bytes m a r e = omega (arith, ap length e, length-append (bytes_said m) a, tells_some m.0 m.1 r)
 
 -- ---- forms
-
--- the fewest bytes of a line of the form
-unfoldable pub least : Form → ℕ
-least (line k) = least_of k
-least (either f g) = cond (leb (least f) (least g)) (least f) (least g)
 
 longer : (m n at next : ℕ) → (at + m ≤ next) ⊎ (at + n ≤ next) → at + cond (leb m n) m n ≤ next
 longer m n at next h = go (leb m n) refl h

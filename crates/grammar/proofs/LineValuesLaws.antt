@@ -21,6 +21,7 @@ use Rattle.decimal.specs.SignedLaws.{signed_field_is, signed_field_read}
 use Rattle.decimal.specs.Fields.{field, signed_field}
 use Rattle.grammar.specs.NewlineLaws.{newlines_append, newlines_field, newlines_signed_field}
 use Rattle.grammar.specs.LineValues.{Field, number, signed, Value, value_bytes, ValueFits, Values, values_bytes, ValuesFit}
+use Rattle.grammar.specs.FewestBytes.{least_values}
 use Rattle.grammar.specs.Clear.{fields_number}
 use Rattle.grammar.specs.Told.{Letters}
 use Rattle.grammar.specs.TextReading.{on_seen, value_at, values_from, values_at}
@@ -130,10 +131,6 @@ module _ {s : List ℕ} where
       rw (word_read w (spans_front w (values_bytes fs x) u)) (values_read fs x (spans_back w (values_bytes fs x) u) r)
 
 -- ---- sizes and LFs
-
--- the fewest bytes of values: two a field, and LF
-abbrev pub least_values : List Field → ℕ
-least_values fs = 2 * length fs + 1
 
 pub values_long : (fs : List Field) (x : Values fs) → least_values fs ≤ length (values_bytes fs x)
 unfolding values_bytes field

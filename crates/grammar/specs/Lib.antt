@@ -5,6 +5,7 @@ pub mod NewlineLaws
 pub mod LineValues
 pub mod NumberFields
 pub mod Form
+pub mod FewestBytes
 pub mod Grammar
 pub mod Clear
 pub mod Blocks

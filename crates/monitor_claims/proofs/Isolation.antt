@@ -12,7 +12,7 @@ use Rattle.monitor_claims.specs.MonitorOutput.{plain_chart, MonitorPrints}
 use Rattle.monitor_claims.specs.NodeLines.{lines_in, node_lines, with_node, with_periods, alone_bytes}
 use Rattle.monitor_claims.specs.MonitorOutput.{NotRefused}
 use Rattle.monitor_claims.proofs.IsolationLaws.{same_lines, accepted_prints, no_totals}
-use Rattle.monitor_claims.proofs.IsolationLaws.{node_alone as node-alone-proved, node_without as node-without-proved}
+use Rattle.monitor_claims.proofs.IsolationLaws.{node_alone as node_alone_proved, node_without as node_without_proved}
 
 module _ {centre : ℤ} {sigma : ℕ} {rs : List Rule} {ps : List NodeReading} {printed : List ℕ}
     (o : OnBench ps) (t : MonitorPrints centre sigma rs ps printed) (k : ℕ) where
@@ -20,11 +20,11 @@ module _ {centre : ℤ} {sigma : ℕ} {rs : List Rule} {ps : List NodeReading} {
   -- its number behind it, from 1, and each line with the node after the first word.
   pub node_alone : (readings_of k ps ≡ [] → ⊥)
       → node_lines k printed ≡ map (with_node k) (with_periods 1 (lines_in (alone_bytes (plain_chart rs centre sigma (readings_of k ps)))))
-  node_alone = node-alone-proved o t k
+  node_alone = node_alone_proved o t k
 
   -- A node with none has no line.
   pub node_without : readings_of k ps ≡ [] → node_lines k printed ≡ []
-  node_without = node-without-proved o t k
+  node_without = node_without_proved o t k
 
 -- Two texts that are both accepted and have the same opening lines, and in which a node's readings are the same: the lines printed for that node, its
 -- total among them, are the same, in the same order.

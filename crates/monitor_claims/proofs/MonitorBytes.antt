@@ -21,8 +21,8 @@ use Rattle.monitor_text.specs.ReadMonitor.{refused_monitor, read_monitor}
 use Rattle.monitor_text.specs.MonitorTextLaws.{clear_monitor}
 use Rattle.monitor_claims.specs.MonitorTexts.{MonitorTextIs, OffBench, MonitorReading}
 use Rattle.monitor_claims.proofs.MonitorBytesLaws.{front_fits}
-use Rattle.monitor_claims.proofs.MonitorBytesLaws.{monitor_reading as monitor-reading-proved, monitor_read as monitor-read-proved, monitor_off_bench as monitor-off-bench-proved}
-use Rattle.monitor_claims.proofs.MonitorBytesLaws.{monitor_text_once as monitor-text-once-proved, monitor_accepted as monitor-accepted-proved, monitor_exactly as monitor-exactly-proved}
+use Rattle.monitor_claims.proofs.MonitorBytesLaws.{monitor_reading as monitor_reading_proved, monitor_read as monitor_read_proved, monitor_off_bench as monitor_off_bench_proved}
+use Rattle.monitor_claims.proofs.MonitorBytesLaws.{monitor_text_once as monitor_text_once_proved, monitor_accepted as monitor_accepted_proved, monitor_exactly as monitor_exactly_proved}
 
 -- The first point of no node is the line behind the LFs before it.
 pub off_newlines : {s : List ℕ} {c : ℤ} {d : ℕ} {rs : List Rule} {place : ℕ} (o : OffBench s c d rs place)
@@ -35,35 +35,35 @@ off_newlines {s} {c} {d} {rs} o =
 -- Every text is refused by 17; or by 16, at the line where it stops being one; or by 19, at the first point whose node is none of the bench's; or it
 -- is read.
 pub monitor_reading : (s : List ℕ) → MonitorReading s (monitor_text s)
-monitor_reading = monitor-reading-proved
+monitor_reading = monitor_reading_proved
 
 -- ---- the lines of a chart, rules and points are read back
 
 -- A text that is these lines, with points of the bench's nodes, is read as its chart, its rules and its points.
 pub monitor_read : {s : List ℕ} {c : ℤ} {d : ℕ} {rs : List Rule} {ps : List NodeReading} → MonitorTextIs s c d rs ps → OnBench ps
     → (at : ℕ) × (monitor_text s ≡ read_monitor c d rs at) × (monitor_points s ≡ ps)
-monitor_read = monitor-read-proved
+monitor_read = monitor_read_proved
 
 -- A text with a point whose node is none of the bench's is refused by 19, at the first such point.
 pub monitor_off_bench : {s : List ℕ} {c : ℤ} {d : ℕ} {rs : List Rule} {place : ℕ} → OffBench s c d rs place
     → monitor_text s ≡ refused_monitor (bad_node place)
-monitor_off_bench = monitor-off-bench-proved
+monitor_off_bench = monitor_off_bench_proved
 
 -- A text is the lines of at most one chart, one list of rules and one list of points.
 pub monitor_text_once : {s : List ℕ} {c c' : ℤ} {d d' : ℕ} {rs rs' : List Rule} {ps ps' : List NodeReading} → MonitorTextIs s c d rs ps
     → MonitorTextIs s c' d' rs' ps'
     → (c ≡ c') × (d ≡ d') × (rs ≡ rs') × (ps ≡ ps')
-monitor_text_once = monitor-text-once-proved
+monitor_text_once = monitor_text_once_proved
 
 -- A text is accepted, by the number 0, exactly where it is the lines of a chart, rules and points of the bench's nodes: then it gives these.
 pub monitor_accepted : (s : List ℕ) → (monitor_text s).refusal.number ≡ 0
     → (c : ℤ) × (d : ℕ) × (rs : List Rule) × (ps : List NodeReading) × MonitorTextIs s c d rs ps × OnBench ps
-monitor_accepted = monitor-accepted-proved
+monitor_accepted = monitor_accepted_proved
 
 -- The same by the equations with what is read, for the rules that a list has slots for.
 pub monitor_exactly : {s : List ℕ} {c : ℤ} {d : ℕ} {rs : List Rule} (at : ℕ) {ps : List NodeReading} → length rs ≤ max_rules
     → monitor_text s ≡ read_monitor c d rs at → monitor_points s ≡ ps → MonitorTextIs s c d rs ps × OnBench ps
-monitor_exactly = monitor-exactly-proved
+monitor_exactly = monitor_exactly_proved
 
 -- Bytes that stop being a text at a line are refused by 16, with that line as the place.
 pub monitor_stopped : {s : List ℕ} {place : ℕ} → length s ≤ max_text → Stops monitor_grammar s place → monitor_text s ≡ refused_monitor (bad_line place)

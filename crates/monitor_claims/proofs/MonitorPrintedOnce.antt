@@ -9,7 +9,7 @@ use Rattle.monitor_report.specs.MonitorReport.{monitor_printed}
 use Rattle.monitor_claims.specs.MonitorTexts.{MonitorTextIs}
 use Rattle.monitor_claims.specs.MonitorOutput.{plain_chart}
 use Rattle.monitor_claims.specs.MonitorOutput.{EachSaid}
-use Rattle.monitor_claims.proofs.MonitorPrintedOnceLaws.{monitor_read_off as monitor-read-off-proved}
+use Rattle.monitor_claims.proofs.MonitorPrintedOnceLaws.{monitor_read_off as monitor_read_off_proved}
 
 -- Whoever reads the monitor program's output as the lines of any answers, each with a node and a period, and any totals reads those of
 -- each node's plain chart, for the points whose lines the text has.
@@ -17,4 +17,4 @@ pub monitor_read_off : (s : List ℕ) (os : List NodeAnswer) (ts : List NodeTota
     → printed_bytes (monitor_printed s) ≡ answer_lines os ++ total_lines ts
     → (centre : ℤ) × (sigma : ℕ) × (rs : List Rule) × (ps : List NodeReading) × MonitorTextIs s centre sigma rs ps
     × (os ≡ bench_answers (plain_chart rs centre sigma) [] ps) × (ts ≡ bench_totals (plain_chart rs centre sigma) ps node_count)
-monitor_read_off = monitor-read-off-proved
+monitor_read_off = monitor_read_off_proved

@@ -16,7 +16,7 @@ use Rattle.monitor_claims.specs.MonitorOutput.{NotRefused}
 use Rattle.monitor_claims.proofs.IsolationLaws.{accepted_prints}
 use Rattle.monitor_claims.specs.NodeLines.{AddsUp}
 use Rattle.monitor_claims.proofs.PeriodsLaws.{node_periods}
-use Rattle.monitor_claims.proofs.PeriodsLaws.{periods_add_up as periods-add-up-proved}
+use Rattle.monitor_claims.proofs.PeriodsLaws.{periods_add_up as periods_add_up_proved}
 
 -- In an accepted text the period fields of a node's quiet and signal lines are 1, 2, 3, .., in order, to the number of its points.
 pub periods : {s : List ℕ} {centre : ℤ} {sigma : ℕ} {rs : List Rule} {ps : List NodeReading} → NotRefused s
@@ -30,4 +30,4 @@ periods a is k =
 -- period of a signal is the sum of the run lengths up to it.
 pub periods_add_up : (s : List ℕ) (os : List NodeAnswer) (ts : List NodeTotal) → EachSaid os
     → printed_bytes (monitor_printed s) ≡ answer_lines os ++ total_lines ts → (k : ℕ) → AddsUp 0 (answers_of k os)
-periods_add_up = periods-add-up-proved
+periods_add_up = periods_add_up_proved

@@ -2,7 +2,7 @@
 use Rattle.std.specs.Prelude.{ℕ, zero, suc, ◌+◌, ◌*◌, ◌/◌, List, [], ◌∷◌, ◌++◌, length, ℤ}
 use Rattle.rules.specs.Mask.{bit}
 use Rattle.window.specs.ReferenceChart.{Answer, refused, quiet, signal, is_signal}
-use Rattle.grammar.proofs.FormLaws.{least_of}
+use Rattle.grammar.specs.FewestBytes.{least_of}
 use Rattle.grammar.specs.Size.{max_text}
 use Rattle.monitor_text.specs.MonitorGrammar.{point_line}
 use Rattle.monitor_text.specs.Readings.{NodeReading, node_count, readings_of}

@@ -8,7 +8,7 @@ use Rattle.grammar.specs.LineValues.{number, signed, ValuesFit}
 use Rattle.grammar.specs.Form.{Says, line}
 use Rattle.grammar.specs.TextReading.{seen, many_at}
 use Rattle.grammar.specs.Read.{found, other}
-use Rattle.grammar.proofs.FormLaws.{least_of, least}
+use Rattle.grammar.specs.FewestBytes.{least_of, least}
 use Rattle.grammar.proofs.BlockLaws.{line_reaches, one_of_many, none_of_many, many_short}
 use Rattle.text.specs.declared.lines.LineRead.{LineRead}
 use Rattle.text.specs.LineRead.{slots_of, codes, line_read_at}

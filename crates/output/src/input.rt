@@ -1,5 +1,5 @@
 // Reading all of an input, and telling its end from an error.
-ghost use Rattle.std.specs.Prelude.{◌≡◌, ◌+◌, ◌≤◌, ◌<◌, IfOk, IsTrue, MatchResult, drop, length, take};
+ghost use Rattle.std.specs.Prelude.{ℕ, ◌≡◌, ◌+◌, ◌≤◌, ◌<◌, IfOk, IsTrue, MatchResult, OnErr, drop, length, take};
 ghost use Rattle.std.specs.Io.KnownBytes.{Consumes, IsAtEnd, Keeps};
 
 use std::io;
@@ -38,13 +38,15 @@ fn read_more<R: Read>(input: &mut R, buf: &mut [u8], done: usize) -> io::Result<
 }
 
 // Reads until the buffer is full, the input ends or a read fails: how many bytes were read. The buffer then begins with the bytes that the
-// input gave, all of them where they did not fill it.
+// input gave, all of them where they did not fill it; and with those that it gave until then where a read failed.
 pub fn read_input<R: Read>(input: &mut R, buf: &mut [u8]) -> io::Result<usize>
     ensures bound { IfOk result (λ n. n ≤ length buf.new) }
     ensures prefix { IfOk result (λ n. n ≡ length (take n buf.new)) }
     ensures kept { length buf.new ≡ length buf.old }
     ensures bytes { IfOk result (λ n. Consumes (R.remaining input.old) (R.remaining input.new) (take n buf.new)) }
     ensures whole { IfOk result (λ n. n < length buf.new → IsAtEnd (R.remaining input.new)) }
+    ensures part { OnErr result ((n : ℕ) × (n ≤ length buf.new)
+        × Consumes (R.remaining input.old) (R.remaining input.new) (take n buf.new)) }
 {
     let mut done = 0;
     let mut turns = MAX_READS;

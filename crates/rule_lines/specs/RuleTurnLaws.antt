@@ -15,7 +15,7 @@ use Rattle.grammar.specs.LineValues.{Field, number}
 use Rattle.grammar.specs.Form.{Says, line}
 use Rattle.grammar.specs.TextReading.{on_seen, seen, many_at, after_many}
 use Rattle.grammar.specs.Read.{Seen, found, other}
-use Rattle.grammar.proofs.FormLaws.{least}
+use Rattle.grammar.specs.FewestBytes.{least}
 use Rattle.grammar.proofs.BlockLaws.{line_reaches, many_short}
 use Rattle.grammar.proofs.TurnLaws.{ReadUpTo, read_up_start, read_up_more, read_up_done}
 use Rattle.text.specs.declared.lines.LineRead.{LineRead}

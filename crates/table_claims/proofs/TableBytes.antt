@@ -13,26 +13,26 @@ use Rattle.table_text.specs.TableText.{table_given, table_text}
 use Rattle.table_text.specs.ReadTable.{refused_table, read_table}
 use Rattle.table_text.specs.TableTextLaws.{clear_table}
 use Rattle.table_claims.specs.TableTexts.{TableTextIs}
-use Rattle.table_claims.proofs.TableBytesLaws.{table_read as table-read-proved, table_text_once as table-text-once-proved, table_accepted as table-accepted-proved}
-use Rattle.table_claims.proofs.TableBytesLaws.{table_exactly as table-exactly-proved}
+use Rattle.table_claims.proofs.TableBytesLaws.{table_read as table_read_proved, table_text_once as table_text_once_proved, table_accepted as table_accepted_proved}
+use Rattle.table_claims.proofs.TableBytesLaws.{table_exactly as table_exactly_proved}
 
 -- The lines of weights, rules and a horizon are read back.
 pub table_read : {s : List ℕ} {w : List ℕ} {rs : List Rule} {h : ℕ} → TableTextIs s w rs h → table_text s ≡ read_table w rs h
-table_read = table-read-proved
+table_read = table_read_proved
 
 -- A text is the lines of at most one list of weights, one list of rules and one horizon.
 pub table_text_once : {s : List ℕ} {w w' : List ℕ} {rs rs' : List Rule} {h h' : ℕ} → TableTextIs s w rs h → TableTextIs s w' rs' h'
     → (w ≡ w') × (rs ≡ rs') × (h ≡ h')
-table_text_once = table-text-once-proved
+table_text_once = table_text_once_proved
 
 -- A text is accepted, by the number 0, exactly where it is the lines of weights, rules and a horizon: then it gives these.
 pub table_accepted : (s : List ℕ) → (table_text s).refusal.number ≡ 0
     → (w : List ℕ) × (rs : List Rule) × (h : ℕ) × TableTextIs s w rs h
-table_accepted = table-accepted-proved
+table_accepted = table_accepted_proved
 
 -- The same by the equation with what is read, for the rules that a list has slots for.
 pub table_exactly : {s : List ℕ} {w : List ℕ} {rs : List Rule} {h : ℕ} → length rs ≤ max_rules → table_text s ≡ read_table w rs h → TableTextIs s w rs h
-table_exactly = table-exactly-proved
+table_exactly = table_exactly_proved
 
 -- Bytes that stop being a text at a line are refused by 16, with that line as the place.
 pub table_stopped : {s : List ℕ} {place : ℕ} → length s ≤ max_text → Stops table_grammar s place → table_text s ≡ refused_table (bad_line place)

@@ -7,11 +7,11 @@ use Rattle.table_report.specs.TableReport.{table_printed}
 use Rattle.text_claims.specs.NumbersApartLaws.{elem, apart, apart_never}
 use Rattle.rules.specs.Numbers.{library_numbers}
 use Rattle.table_claims.specs.TableOutput.{table_numbers}
-use Rattle.table_claims.proofs.TableNumbersLaws.{table_refusals as table-refusals-proved}
+use Rattle.table_claims.proofs.TableNumbersLaws.{table_refusals as table_refusals_proved}
 
 -- A refusal that the table program prints has one of its numbers; so 5, 6, 7 and 11 to 15 are never printed.
 pub table_refusals : (s : List ℕ) (n p : ℕ) → printed_bytes (table_printed s) ≡ refused_line n p → OneOf table_numbers n
-table_refusals = table-refusals-proved
+table_refusals = table_refusals_proved
 
 -- A number that library calls alone give is never printed.
 pub table_never : (s : List ℕ) (n p : ℕ) → OneOf library_numbers n → printed_bytes (table_printed s) ≡ refused_line n p → ⊥

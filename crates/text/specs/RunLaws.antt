@@ -11,7 +11,7 @@ use Rattle.decimal.specs.declared.word.Found.TheVariants.{At, Absent}
 use Rattle.grammar.specs.LineValues.{Field, Values}
 use Rattle.grammar.specs.Form.{named, line}
 use Rattle.grammar.specs.TextReading.{many_at}
-use Rattle.grammar.proofs.FormLaws.{least}
+use Rattle.grammar.specs.FewestBytes.{least}
 use Rattle.grammar.proofs.BlockLaws.{line_reaches, many_short}
 use Rattle.grammar.proofs.TurnLaws.{ReadUpTo, read_up_start, read_up_more, read_up_done}
 use Rattle.text.specs.declared.lines.LineRead.{LineRead}

@@ -11,7 +11,7 @@ use Rattle.weights_report.specs.ShiftText.{shift_grammar, refused_shift, read_sh
 use Rattle.weights_report.specs.ShiftTextLaws.{clear_shift}
 use Rattle.weights_claims.specs.WeightsTexts.{ShiftTextIs}
 use Rattle.weights_claims.specs.WeightsBytesLaws.{text_short}
-use Rattle.weights_claims.specs.WeightsBytesLaws.{shift_exactly as shift-exactly-proved}
+use Rattle.weights_claims.specs.WeightsBytesLaws.{shift_exactly as shift_exactly_proved}
 
 -- The line of a shift is read as that shift.
 pub shift_read : {s : List ℕ} {x : ℤ} → ShiftTextIs s x → shift_text s ≡ read_shift x
@@ -24,7 +24,7 @@ shift_text_once t u = ap (λ (c : Contents shift_grammar). c.0.0) (contents_once
 
 -- A text is accepted exactly where it is the line of a shift.
 pub shift_exactly : (s : List ℕ) (x : ℤ) → shift_text s ≡ read_shift x → ShiftTextIs s x
-shift_exactly = shift-exactly-proved
+shift_exactly = shift_exactly_proved
 
 -- ---- and a text that stops being one is refused by 16, there
 

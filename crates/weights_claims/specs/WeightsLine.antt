@@ -9,13 +9,13 @@ use Rattle.write.specs.Refused.{refused_line}
 use Rattle.write.specs.Printed.{printed_bytes}
 use Rattle.table_report.specs.TableReport.{table_printed}
 use Rattle.weights_claims.specs.WeightsTexts.{weights_bytes}
-use Rattle.weights_claims.specs.WeightsLineLaws.{weights_counted as weights-counted-proved}
+use Rattle.weights_claims.specs.WeightsLineLaws.{weights_counted as weights_counted_proved}
 
 module _ (ws rest : List ℕ) (other : length ws ≡ zone_count → ⊥) where
   -- The text begins with a weights line of some other number of weights: it is refused by 16, and the place is line 1.
   pub weights_counted : length (weights_bytes ws ++ rest) ≤ max_text
       → printed_bytes (table_printed (weights_bytes ws ++ rest)) ≡ refused_line (bad_line 1).number 1
-  weights_counted = weights-counted-proved ws rest other
+  weights_counted = weights_counted_proved ws rest other
 
 -- So a text with seven weights is.
 pub seven_weights : (ws rest : List ℕ) → length ws ≡ 7 → length (weights_bytes ws ++ rest) ≤ max_text

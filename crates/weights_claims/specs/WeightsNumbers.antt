@@ -7,11 +7,11 @@ use Rattle.weights_report.specs.WeightsReport.{weights_printed}
 use Rattle.text_claims.specs.NumbersApartLaws.{elem, apart, apart_never}
 use Rattle.rules.specs.Numbers.{library_numbers}
 use Rattle.weights_claims.specs.WeightsTexts.{weights_numbers}
-use Rattle.weights_claims.specs.WeightsNumbersLaws.{weights_refusals as weights-refusals-proved}
+use Rattle.weights_claims.specs.WeightsNumbersLaws.{weights_refusals as weights_refusals_proved}
 
 -- A refusal that the weights program prints has one of its numbers.
 pub weights_refusals : (s : List ℕ) (n p : ℕ) → printed_bytes (weights_printed s) ≡ refused_line n p → OneOf weights_numbers n
-weights_refusals = weights-refusals-proved
+weights_refusals = weights_refusals_proved
 
 -- A number that library calls alone give is never printed.
 pub weights_never : (s : List ℕ) (n p : ℕ) → OneOf library_numbers n → printed_bytes (weights_printed s) ≡ refused_line n p → ⊥

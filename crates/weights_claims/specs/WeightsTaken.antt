@@ -12,7 +12,7 @@ use Rattle.write.specs.Printed.{printed_bytes}
 use Rattle.table_report.specs.TableReport.{table_printed}
 use Rattle.weights_report.specs.WeightsReport.{weights_printed}
 use Rattle.weights_claims.specs.WeightsTexts.{ShiftTextIs}
-use Rattle.weights_claims.specs.WeightsTakenLaws.{weights_taken as weights-taken-proved}
+use Rattle.weights_claims.specs.WeightsTakenLaws.{weights_taken as weights_taken_proved}
 
 module _ {s : List ℕ} {x : ℤ} (is : ShiftTextIs s x) (b : nat_abs x ≤ max_shift) (rs : List Rule) (h : ℕ) {rest : List ℕ}
     (t : TextIs (many rule_line ∷ one horizon_line ∷ []) (rule_values rs, ((h, tt), tt)) rest) where
@@ -21,4 +21,4 @@ module _ {s : List ℕ} {x : ℤ} (is : ShiftTextIs s x) (b : nat_abs x ≤ max_
   text = printed_bytes (weights_printed s) ++ rest
 
   pub weights_taken : length text ≤ max_text → (place : ℕ) → printed_bytes (table_printed text) ≡ refused_line bad_weights.number place → ⊥
-  weights_taken = weights-taken-proved is b rs h t
+  weights_taken = weights_taken_proved is b rs h t
