@@ -1,4 +1,4 @@
-// A batch of readings for callers in C and Rust, exported.
+// A batch of readings, exported.
 ghost use Rattle.std.specs.Prelude.{◌≡◌};
 ghost use Rattle.batch.specs.Batch.{batch_of};
 ghost use Rattle.codes.specs.Codes.{slot_list};

@@ -1,4 +1,4 @@
-// The percentile bracket for callers in C and Rust, exported.
+// The percentile bracket, exported.
 ghost use Rattle.std.specs.Prelude.{◌≡◌};
 ghost use Rattle.capi.specs.BracketCall.{BracketCalled};
 

@@ -1,4 +1,4 @@
-// The check of a rule list, and the library's version, for callers in C and Rust, exported.
+// The check of a rule list, and the library's version, exported.
 ghost use Rattle.std.specs.Prelude.{◌≡◌};
 ghost use Rattle.rules.specs.Check.{check_of};
 ghost use Rattle.codes.specs.Codes.{slot_list};

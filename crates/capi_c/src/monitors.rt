@@ -1,4 +1,4 @@
-// The monitor for callers in C and Rust. It is kept by the caller as two numbers: the state and the points counted, both 0 at the start, exported.
+// The monitor, exported.
 ghost use Rattle.std.specs.Prelude.{◌≡◌};
 ghost use Rattle.codes.specs.Codes.{slot_list};
 ghost use Rattle.capi.specs.MonitorCall.{monitor_of, ZoneCall, StepCall};

@@ -1,4 +1,4 @@
-// The plot record for callers in C and Rust, exported.
+// The plot record, exported.
 ghost use Rattle.table.specs.Table.{table_call};
 ghost use Rattle.codes.specs.Codes.{slot_list};
 ghost use Rattle.capi.specs.PlotCall.{PlotCalled};

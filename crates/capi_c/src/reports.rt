@@ -1,4 +1,4 @@
-// The programs' reports for callers in C and Rust, exported.
+// The programs' reports, exported.
 ghost use Rattle.std.specs.Prelude.{◌≡◌};
 ghost use Rattle.table_report.specs.TableReport.{table_printed};
 ghost use Rattle.monitor_report.specs.MonitorReport.{monitor_printed};

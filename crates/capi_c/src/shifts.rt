@@ -1,4 +1,4 @@
-// The weights of a shifted core for callers in C and Rust, exported.
+// The weights of a shifted core, exported.
 ghost use Rattle.capi.specs.ShiftCall.{ShiftCall};
 
 use rules::ZONES;

@@ -1,4 +1,4 @@
-// The run-length table for callers in C and Rust, exported.
+// The run-length table, exported.
 ghost use Rattle.codes.specs.Codes.{slot_list};
 ghost use Rattle.table.specs.Table.{table_call};
 ghost use Rattle.capi.specs.TableCall.{TableCalled};

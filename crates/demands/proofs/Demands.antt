@@ -88,11 +88,11 @@ pub record Demand1 : Type 0 where
       → (bracket_of chances n p ≡ BracketAnswer.Refused x) ↔ BracketOrder chances n p x
   pub shift : (s : ℤ) (x : Refusal) → (shift_of s ≡ ShiftAnswer.Refused x) ↔ ShiftOrder s x
   -- a program prints the line of a refusal, and nothing else, exactly where that is the first of the text's order
-  pub table_text_lem : (s : List ℕ) (n place : ℕ)
+  pub table_program_refuses : (s : List ℕ) (n place : ℕ)
       → (printed_bytes (table_printed s) ≡ refused_line n place) ↔ TableTextOrder s (refusal n place)
-  pub monitor_text_lem : (s : List ℕ) (n place : ℕ)
+  pub monitor_program_refuses : (s : List ℕ) (n place : ℕ)
       → (printed_bytes (monitor_printed s) ≡ refused_line n place) ↔ MonitorTextOrder s (refusal n place)
-  pub weights_text : (s : List ℕ) (n place : ℕ)
+  pub weights_program_refuses : (s : List ℕ) (n place : ℕ)
       → (printed_bytes (weights_printed s) ≡ refused_line n place) ↔ WeightsTextOrder s (refusal n place)
   -- 'a refusal alters no lent buffer'
   pub operations : OperationsKeep
@@ -134,7 +134,7 @@ pub record Demand3 : Type 0 where
       → monitor_answers l fresh_monitor zs ≡ chart_answers (active_rules l) [] zs
   -- 'Feed a fresh monitor every zone sequence of length n, each call getting what the last one returned; weigh each
   -- sequence by the product of its zones' chances, and add up those that have signalled': `monitor_sum`
-  pub exact_sum_lem : (l : RuleList) → AcceptedList l → (n : ℕ) → n ≤ max_horizon → (w : List ℕ)
+  pub added_up : (l : RuleList) → AcceptedList l → (n : ℕ) → n ≤ max_horizon → (w : List ℕ)
       → monitor_sum l w n ≡ exact_sum (active_rules l) w n
   -- 'For all accepted weights, every accepted rule list with N standings and each n from 1 to the horizon H, the
   -- table's chance of a signal by n never exceeds that exact sum'
@@ -169,9 +169,9 @@ demand_1 = record {
   plot = answer.plot;
   bracket = answer.bracket;
   shift = answer.shift;
-  table_text_lem = text.table_text_lem;
-  monitor_text_lem = text.monitor_text_lem;
-  weights_text = text.weights_text;
+  table_program_refuses = text.table_text_order;
+  monitor_program_refuses = text.monitor_text_order;
+  weights_program_refuses = text.weights_text_order;
   operations = operations_keep;
   exported = exported_keep;
 }
@@ -197,7 +197,7 @@ demand_2 = record {
 pub demand_3 : Demand3
 demand_3 = record {
   agree = three.monitor_agrees;
-  exact_sum_lem = three.monitor_sum_lem;
+  added_up = three.monitor_sum_lem;
   not_over = λ t f e n i j. (three.monitor_bounds t f e n i j).0;
   short_by_less = λ t f e n i j. (three.monitor_bounds t f e n i j).1;
   contains = three.bracket_contains_percentile;

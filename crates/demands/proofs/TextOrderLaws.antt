@@ -126,9 +126,9 @@ table_reason {s} (table.bad_table w rs h x is c o) =
     (place.later (λ p st. not_both clear_table is.text st)
     (record { weights = w; rules = rs; horizon = h; text = is; refused = (chart_order w rs h).to x c })))
 
-pub table_text_lem : (s : List ℕ) (n p : ℕ) → (printed_bytes (table_printed s) ≡ refused_line n p)
+pub table_text_order : (s : List ℕ) (n p : ℕ) → (printed_bytes (table_printed s) ≡ refused_line n p)
     ↔ TableTextOrder s (refusal n p)
-table_text_lem s n p = (λ e. to e (table_program s), table_line s (refusal n p))
+table_text_order s n p = (λ e. to e (table_program s), table_line s (refusal n p))
   where
     to : printed_bytes (table_printed s) ≡ refused_line n p → TableProgram s (printed_bytes (table_printed s))
         → TableTextOrder s (refusal n p)
@@ -204,9 +204,9 @@ monitor_reason {s} (monitor.bad_sigma_lem c d rs ps is o ok b) =
         go true e = absurd (b (between min_sigma max_sigma d e))
         go false e = e
 
-pub monitor_text_lem : (s : List ℕ) (n p : ℕ) → (printed_bytes (monitor_printed s) ≡ refused_line n p)
+pub monitor_text_order : (s : List ℕ) (n p : ℕ) → (printed_bytes (monitor_printed s) ≡ refused_line n p)
     ↔ MonitorTextOrder s (refusal n p)
-monitor_text_lem s n p = (λ e. to e (monitor_program s), monitor_line s (refusal n p))
+monitor_text_order s n p = (λ e. to e (monitor_program s), monitor_line s (refusal n p))
   where
     to : printed_bytes (monitor_printed s) ≡ refused_line n p → MonitorProgram s (printed_bytes (monitor_printed s))
         → MonitorTextOrder s (refusal n p)
@@ -237,9 +237,9 @@ weights_reason (weights.bad_shift_lem x is h) =
     later (λ l. omega (arith, text_short is))
     (place.later (λ q st. not_both clear_shift is.text st) (record { shift = x; text = is; refused = here h }))
 
-pub weights_text : (s : List ℕ) (n p : ℕ) → (printed_bytes (weights_printed s) ≡ refused_line n p)
+pub weights_text_order : (s : List ℕ) (n p : ℕ) → (printed_bytes (weights_printed s) ≡ refused_line n p)
     ↔ WeightsTextOrder s (refusal n p)
-weights_text s n p = (λ e. to e (weights_program s), weights_line_lem s (refusal n p))
+weights_text_order s n p = (λ e. to e (weights_program s), weights_line_lem s (refusal n p))
   where
     to : printed_bytes (weights_printed s) ≡ refused_line n p → WeightsProgram s (printed_bytes (weights_printed s))
         → WeightsTextOrder s (refusal n p)

@@ -162,9 +162,6 @@ horizon_kept h i = go (leb h max_rows) refl i
 
 -- ---- the program
 
-same_figures : {w : List ℕ} {rs rs' : List Rule} {h h' : ℕ} {f : Figures} → rs ≡ rs' → h ≡ h' → FiguresHoldByRow w rs h f → FiguresHoldByRow w rs' h' f
-same_figures p q t = rw (← p, ← q) t
-
 same_figures_by_row : {w w' : List ℕ} {rs rs' : List Rule} {h h' : ℕ} {f : Figures} → w ≡ w' → rs ≡ rs' → h ≡ h' → FiguresHoldByRow w rs h f
     → FiguresHoldByRow w' rs' h' f
 same_figures_by_row o p q t = rw (← o, ← p, ← q) t
@@ -191,7 +188,7 @@ module _ (s : List ℕ) (w : List ℕ) (rs : List Rule) (h : ℕ) (is : TableTex
       prints_by_row w rs h (figures t x e) is k.1
       (same_check (rule_list_of rs) w k.0 (chain_accepted c))
       (lines_are t x e ∙ ap (λ n. figure_lines n (figures t x e)) k.0)
-      (same_figures (active_rules_lem rs (rules_few rs c.rules)) k.0 (figures_hold t x e))
+      (same_figures_by_row refl (active_rules_lem rs (rules_few rs c.rules)) k.0 (figures_hold t x e))
   by_answer (SummaryAnswer.Refused x) e =
       let c : chain_check (rule_list_of rs) w (report_horizon h) ≡ Refused x =
       sym (room_check t room room) ∙ refused_check t x (refused_table_lem t x e) in

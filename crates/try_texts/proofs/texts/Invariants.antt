@@ -1,3 +1,4 @@
+-- Each turn takes one path of the list, which ends at most one byte behind it.
 use Rattle.std.proofs.Common.{length, ◌+◌, ◌-◌, ◌≤◌}
 use Rattle.try_texts.proofs.texts.Given as goal
 

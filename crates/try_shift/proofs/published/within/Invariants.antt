@@ -1,3 +1,4 @@
+-- The count is kept below a thousand.
 use Rattle.std.proofs.Common.{◌<◌}
 use Rattle.try_shift.proofs.published.within.Given as goal
 

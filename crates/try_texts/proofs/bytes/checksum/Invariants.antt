@@ -1,3 +1,4 @@
+-- The sum stays below the modulus.
 use Rattle.std.proofs.Common.{◌<◌}
 use Rattle.try_texts.proofs.bytes.checksum.Given as goal
 

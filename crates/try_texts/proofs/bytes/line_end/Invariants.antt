@@ -1,3 +1,4 @@
+-- The offset looked at is from `at` on, within the bytes.
 use Rattle.std.proofs.Common.{length, ◌-◌, ◌≤◌}
 use Rattle.try_texts.proofs.bytes.line_end.Given as goal
 
