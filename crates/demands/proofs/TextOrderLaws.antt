@@ -1,21 +1,18 @@
 -- A program prints a refusal's line exactly as the order of its text says. Laws.
-use Rattle.std.specs.Prelude.{ℕ, ◌≤◌, ◌<◌, ◌≡◌, refl, Bool, true, false, cond, List, ◌↔◌, leb, ℤ, nat_abs, length}
+use Rattle.std.specs.Prelude.{ℕ, ◌≤◌, ◌<◌, ◌≡◌, refl, Bool, true, false, cond, List, ◌↔◌, leb, ℤ, nat_abs, length, Err, Ok}
 use Rattle.std.proofs.Common.{sym, ap, ◌∙◌, arith, le-leb, leb-true}
 use Rattle.std.proofs.Math.Decide.{dec_lt}
 use Rattle.std.proofs.lemmas.List.{length-replicate}
 use Rattle.rules.specs.declared.Rule.{Rule}
 use Rattle.rules.specs.declared.refusal.Refusal.{Refusal}
-use Rattle.rules.specs.declared.Checked.TheVariants.{Refused}
-use Rattle.rules.specs.Refusal.{refusal, bad_sigma, bad_line, too_long, bad_node, bad_shift}
+use Rattle.rules.specs.Refusal.{place_of, number_of, refusal, bad_sigma, bad_line, too_long, bad_node, bad_shift}
 use Rattle.rules.specs.Check.{within, or_else, unless, check_of}
 use Rattle.rules.proofs.CheckLaws.{between}
 use Rattle.runlength.specs.Scale.{min_horizon, max_horizon}
 use Rattle.monitor.specs.Zone.{min_sigma, max_sigma}
 use Rattle.table.specs.Table.{table_call, chain_check}
 use Rattle.table.proofs.TableLaws.{room_check}
-use Rattle.summary.specs.declared.SummaryAnswer.{SummaryAnswer}
 use Rattle.summary.specs.Summary.{summary_of}
-use Rattle.shift.specs.declared.ShiftAnswer.{ShiftAnswer}
 use Rattle.shift.specs.Shift.{max_shift, weights_of, shift_of}
 use Rattle.grammar.proofs.EveryGrammar.{not_both}
 use Rattle.rule_lines.specs.Rules.{rule_list_of}
@@ -66,7 +63,7 @@ same_line : (Order : Refusal → Type 0) {n p n' p' : ℕ} → refused_line n p 
 same_line Order {n} {p} {n'} {p'} e o = let q = refused_line_once n p n' p' e in rw (q.0, q.1) o
 
 -- a refusal is its number and its place
-whole : (Order : Refusal → Type 0) (x : Refusal) → Order x → Order (refusal x.number x.place)
+whole : (Order : Refusal → Type 0) (x : Refusal) → Order x → Order (refusal (number_of x) (place_of x))
 whole Order x o = o
 
 -- where it is not too long
@@ -97,8 +94,8 @@ chart_order w rs h = last (chart_then (rule_list_of rs) w max_rows h (report_hor
 
 -- a chart that is refused is refused by the program's call
 refused_call : (w : List ℕ) (rs : List Rule) (h : ℕ) (x : Refusal) → chain_check (rule_list_of rs) w (report_horizon h)
-    ≡ Refused x
-    → (summary_of (table_call (rule_list_of rs) w (report_horizon h) blank blank)).answer ≡ SummaryAnswer.Refused x
+    ≡ Err x
+    → (summary_of (table_call (rule_list_of rs) w (report_horizon h) blank blank)).answer ≡ Err x
 unfolding blank
 refused_call w rs h x e =
     let t = table_call (rule_list_of rs) w (report_horizon h) blank blank in
@@ -106,7 +103,7 @@ refused_call w rs h x e =
     refused_summary t x (refused_answer t x (room_check t room room ∙ e))
 
 table_line : (s : List ℕ) (x : Refusal) → TableTextOrder s x → printed_bytes (table_printed s)
-    ≡ refused_line x.number x.place
+    ≡ refused_line (number_of x) (place_of x)
 unfolding table_printed printed_bytes refused_table read_table
 table_line s x (here l) = rw (table_too_long s l)
 table_line s x (later n (place.here p st)) = rw (table_stopped (short n) st)
@@ -143,13 +140,13 @@ rules_then_sigma : (rs : List Rule) (sigma : ℕ)
 rules_then_sigma rs sigma = list_then (rule_list_of rs) (λ e. last (sigma_then sigma none_left))
 
 -- a text that was read is refused by its check alone
-by_check : (s : List ℕ) (t : MonitorText) (x : Refusal) → monitor_text s ≡ t → monitor_check t ≡ Refused x
-    → printed_bytes (monitor_printed s) ≡ refused_line x.number x.place
+by_check : (s : List ℕ) (t : MonitorText) (x : Refusal) → monitor_text s ≡ t → monitor_check t ≡ Err x
+    → printed_bytes (monitor_printed s) ≡ refused_line (number_of x) (place_of x)
 unfolding monitor_printed printed_bytes
 by_check s t x e c = rw (e, c)
 
 monitor_line : (s : List ℕ) (x : Refusal) → MonitorTextOrder s x → printed_bytes (monitor_printed s)
-    ≡ refused_line x.number x.place
+    ≡ refused_line (number_of x) (place_of x)
 unfolding refused_monitor read_monitor
 monitor_line s x (here l) = by_check s _ too_long (monitor_too_long s l) refl
 monitor_line s x (later n (place.here p st)) = by_check s _ (bad_line p) (monitor_stopped (short n) st) refl
@@ -216,7 +213,7 @@ monitor_text_order s n p = (λ e. to e (monitor_program s), monitor_line s (refu
 -- ---- the weights program
 
 weights_line_lem : (s : List ℕ) (x : Refusal) → WeightsTextOrder s x → printed_bytes (weights_printed s)
-    ≡ refused_line x.number x.place
+    ≡ refused_line (number_of x) (place_of x)
 unfolding weights_printed text_weights printed_bytes shift_of
 weights_line_lem s x (here l) = rw (shift_too_long s l)
 weights_line_lem s x (later n (place.here p st)) = rw (shift_stopped (short n) st)
@@ -224,11 +221,11 @@ weights_line_lem s x (later n (place.later m t)) =
     rw (shift_read t.text)
     (by_order (leb (nat_abs t.shift) max_shift) ((shift_order t.shift).from x t.refused))
   where
-    by_order : (b : Bool) → unless b bad_shift ≡ Refused x
-        → printed_bytes (weights_by (cond b (ShiftAnswer.Accepted (weights_of t.shift)) (ShiftAnswer.Refused bad_shift)))
-        ≡ refused_line x.number x.place
+    by_order : (b : Bool) → unless b bad_shift ≡ Err x
+        → printed_bytes (weights_by (cond b (Ok (weights_of t.shift)) (Err bad_shift)))
+        ≡ refused_line (number_of x) (place_of x)
     by_order true e = absurd (let z : ◌≡◌ {A = ℕ} 0 1 = cc in omega arith)
-    by_order false e = let same : bad_shift ≡ x = cc in ap (λ (y : Refusal). refused_line y.number y.place) same
+    by_order false e = let same : bad_shift ≡ x = cc in ap (λ (y : Refusal). refused_line (number_of y) (place_of y)) same
 
 weights_reason : {s : List ℕ} {n p : ℕ} → WeightsRefusal s n p → WeightsTextOrder s (refusal n p)
 weights_reason (weights.too_long_lem l) = here l

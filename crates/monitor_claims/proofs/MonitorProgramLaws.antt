@@ -1,15 +1,13 @@
 -- What the monitor program prints, case by case. Laws.
-use Rattle.std.specs.Prelude.{ℕ, ◌≤◌, ◌≡◌, Bool, cond, List, [], ◌∷◌, eqb, ℤ, length}
+use Rattle.std.specs.Prelude.{ℕ, ◌≤◌, ◌≡◌, Bool, cond, List, [], ◌∷◌, eqb, ℤ, length, Err, Ok}
 use Rattle.std.proofs.Math.Path.{refl}
 use Rattle.std.proofs.Common.{sym, ap, ◌∙◌, arith, le-leb}
 use Rattle.std.proofs.Math.Bool.{true, false}
 use Rattle.rules.specs.declared.Rule.{Rule}
 use Rattle.rules.specs.declared.RuleList.{RuleList}
 use Rattle.rules.specs.declared.refusal.Refusal.{Refusal}
-use Rattle.rules.specs.declared.Checked.{Checked}
-use Rattle.rules.specs.declared.Checked.TheVariants.{Accepted, Refused}
-use Rattle.rules.specs.Refusal.{bad_sigma}
-use Rattle.rules.specs.Check.{within, or_else, unless, active_rules, check_of}
+use Rattle.rules.specs.Refusal.{place_of, number_of, bad_sigma}
+use Rattle.rules.specs.Check.{Checked, within, or_else, unless, active_rules, check_of}
 use Rattle.rules.proofs.CheckLaws.{between}
 use Rattle.rules.proofs.NumbersLaws.{list_number}
 use Rattle.monitor.specs.Zone.{min_sigma, max_sigma}
@@ -48,7 +46,7 @@ free_said rs (z ∷ zs) row = (go (eqb (row_mask rs (z ∷ row)) 0), free_said r
     go true = tt
     go false = tt
 
-module _ (l : RuleList) (ok : check_of l ≡ Accepted) (centre : ℤ) (sigma : ℕ) where
+module _ (l : RuleList) (ok : check_of l ≡ Ok tt) (centre : ℤ) (sigma : ℕ) where
   -- a fresh monitor answers few readings as the plain chart does
   free : (xs : List ℤ) → length xs ≤ max_number → reading_answers l centre sigma xs ≡ plain_chart (active_rules l) centre sigma xs
   free xs few = monitor_free l ok (zones_of centre sigma xs) (zones_exist centre sigma xs) (omega (arith, zones_length centre sigma xs))
@@ -81,7 +79,7 @@ module _ (s : List ℕ) (centre : ℤ) (sigma : ℕ) (rs : List Rule) (ps : List
   shown : List ℕ
   shown = bench_bytes (reading_answers (rule_list_of rs) centre sigma) ps
 
-  by_sigma : check_of (rule_list_of rs) ≡ Accepted → (t : Bool) → within min_sigma max_sigma sigma ≡ t
+  by_sigma : check_of (rule_list_of rs) ≡ Ok tt → (t : Bool) → within min_sigma max_sigma sigma ≡ t
       → MonitorProgram s (printed_bytes (printed_by (unless t bad_sigma) shown))
   unfolding printed_bytes shown
   by_sigma ok true e =
@@ -92,8 +90,8 @@ module _ (s : List ℕ) (centre : ℤ) (sigma : ℕ) (rs : List Rule) (ps : List
   by_check : (c : Checked) → check_of (rule_list_of rs) ≡ c
       → MonitorProgram s (printed_bytes (printed_by (or_else c (unless (within min_sigma max_sigma sigma) bad_sigma)) shown))
   unfolding printed_bytes
-  by_check Accepted e = by_sigma e (within min_sigma max_sigma sigma) refl
-  by_check (Refused x) e = monitor-refuses x.number x.place refl (bad_rules centre sigma rs ps x is o e (list_number (rule_list_of rs) x e))
+  by_check (Ok tt) e = by_sigma e (within min_sigma max_sigma sigma) refl
+  by_check (Err x) e = monitor-refuses (number_of x) (place_of x) refl (bad_rules centre sigma rs ps x is o e (list_number (rule_list_of rs) x e))
 
 -- a text has few points
 text_few : {s : List ℕ} {centre : ℤ} {sigma : ℕ} {rs : List Rule} {ps : List NodeReading} → MonitorTextIs s centre sigma rs ps → OnBench ps
@@ -118,7 +116,7 @@ monitor_program s = go (monitor_text s) (monitor_reading s) (monitor_points s) (
 
 -- The other way round: a text that is the lines of a chart, rules and points which are in bounds is not refused.
 pub monitor_printed_lem : {s : List ℕ} {c : ℤ} {d : ℕ} {rs : List Rule} {ps : List NodeReading} → MonitorTextIs s c d rs ps → OnBench ps
-    → check_of (rule_list_of rs) ≡ Accepted
+    → check_of (rule_list_of rs) ≡ Ok tt
     → (min_sigma ≤ d) × (d ≤ max_sigma) → MonitorPrints c d rs ps (printed_bytes (monitor_printed s))
 unfolding refused_monitor read_monitor
 monitor_printed_lem {s} {c} {d} {rs} {ps} is o ok bounds = go (monitor_program s)
@@ -127,9 +125,9 @@ monitor_printed_lem {s} {c} {d} {rs} {ps} is o ok bounds = go (monitor_program s
     clash e n = absurd (n (ap (λ (t : MonitorText). t.refusal.number) (sym e ∙ (monitor_read is o).1)))
 
     checked : {c' : ℤ} {d' : ℕ} {rs' : List Rule} {ps' : List NodeReading} {x : Refusal} → MonitorTextIs s c' d' rs' ps'
-        → check_of (rule_list_of rs') ≡ Refused x → ⊥
+        → check_of (rule_list_of rs') ≡ Err x → ⊥
     checked {c'} {d'} {rs'} {ps'} {x} is' e =
-        let q : check_of (rule_list_of rs) ≡ Refused x = rw (monitor_text_once is is').2 e in
+        let q : check_of (rule_list_of rs) ≡ Err x = rw (monitor_text_once is is').2 e in
         let z : ◌≡◌ {A = ℕ} 0 1 = cc in
         omega arith
 

@@ -1,4 +1,5 @@
 -- `zone::zone_of` meets its contract: by sigma outside its bounds, and within them.
+use Rattle.std.specs.Prelude.{Ok}
 use mathlib.Core.Path.{sym, ap, ap₂, ◌∙◌}
 use lib.IntN.{ℤ, ◌-ℤ◌}
 use mir.Facts.{to_z-of_z}
@@ -6,7 +7,6 @@ use borrow.Author.Tests.{not-true, not-false}
 use Rattle.rules.proofs.CheckLaws.{between}
 use Rattle.monitor.specs.Zone.{min_sigma, max_sigma, zone_at}
 use Rattle.monitor.specs.ZoneLaws.{zone_fits, zone_refused}
-use Rattle.monitor.specs.declared.zone.ZoneAnswer.TheVariants.{Zone}
 use Rattle.monitor.proofs.zone.zone_of.Goals as goal
 
 pub returns-then-not-sigma_fits : goal.returns-then-not-sigma_fits
@@ -26,7 +26,7 @@ pub returns : goal.returns
 returns c =
     let fits = c.sigma_fits in
     let a = c.args in
-    ap Zone (
+    ap Ok (
     c.zone_at.ensures
     ∙ ap₂ (λ (x y : ℤ). zone_at (x -ℤ y) a.sigma) (to_z-of_z c.ranges.reading) (to_z-of_z c.ranges.centre))
     ∙ sym (

@@ -1,4 +1,5 @@
 -- `RuleList::check` meets its contract. The invariant: what is left of the list decides as the whole does.
+use Rattle.std.specs.Prelude.{Err}
 use mathlib.Core.Path.{◌≡◌, refl, sym, ap, ◌∙◌}
 use mathlib.Core.Bool.{true, false}
 use Prim.Native.Nat.{◌+◌, ◌-◌}
@@ -6,18 +7,16 @@ use native.Mathlib.Omega.{arith}
 use denote.Enum.Declared.{tag_of}
 use borrow.Author.Tests.{not-true, not-false}
 use Rattle.rules.specs.Bounds.{min_rules, max_rules}
-use Rattle.rules.specs.Check.{within, check_of, check_rules, rules_from, active_rules, or_else}
+use Rattle.rules.specs.Check.{Checked, within, check_of, check_rules, rules_from, active_rules, or_else}
 use Rattle.rules.proofs.CheckLaws.{check_cons, check_none, is_accepted, is_refused, between}
 use Rattle.rules.specs.Refusal.{bad_rule_count}
 use Rattle.rules.specs.declared.RuleList.{RuleList}
-use Rattle.rules.specs.declared.Checked.{Checked}
-use Rattle.rules.specs.declared.Checked.TheVariants.{Refused}
 use Rattle.rules.specs.contracts.Checked.{the_type}
 use Rattle.rules.proofs.RuleList.check.Goals as goal
 
 -- a list whose length is not in bounds is refused, another is decided rule by rule
 module _ (l : RuleList) where
-  refuses : within min_rules max_rules l.len ≡ false → check_of l ≡ Refused bad_rule_count
+  refuses : within min_rules max_rules l.len ≡ false → check_of l ≡ Err bad_rule_count
   unfolding check_of
   refuses e = rw e
 
