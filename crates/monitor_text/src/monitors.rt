@@ -40,10 +40,11 @@ pub fn monitor_text(text: &[u8]) -> Result<MonitorText, Refusal>
     if good < count {
         return Err(Refusal::Node(read.line + good));
     }
+    let list = read.list;
     Ok(MonitorText {
         centre: signed_value(first.values[0]),
         sigma: first.values[1],
-        list: read.list,
+        list,
         points,
     })
 }

@@ -19,13 +19,13 @@ pub on_both : (ns : List ℕ) (a b : Checked) (x : Refusal) → (a ≡ Err x →
     → or_else a b ≡ Err x → OneOf ns (number_of x)
 on_both ns a b x f g e = ⊎_elim f g (either a b x e)
 
-pub not_both : {A : Type 0} (x : Refusal) → (Ok tt) ≡ Err x → A
+pub not_both : {A : Type 0} (x : Refusal) → ◌≡◌ {A = Checked} (Ok tt) (Err x) → A
 not_both x e = absurd (let z : ◌≡◌ {A = ℕ} 0 1 = cc in omega arith)
 
 -- a test that refuses by one number
-pub refused_by_lem : (t : Bool) (y x : Refusal) → unless t y ≡ Err x → number_of x ≡ (number_of y)
+pub refused_by_lem : (t : Bool) (y x : Refusal) → unless t y ≡ Err x → number_of x ≡ number_of y
 refused_by_lem true y x e = not_both x e
-refused_by_lem false y x e = let q : x ≡ y = cc in ap (λ (r : Refusal). r.number) q
+refused_by_lem false y x e = let q : x ≡ y = cc in ap number_of q
 
 -- ---- rule lists: 2, 3, 4
 

@@ -32,9 +32,11 @@ pub fn table_text(text: &[u8]) -> Result<TableText, Refusal>
     if last.next < text.len() {
         return Err(Refusal::Line(read.line + 1));
     }
+    let weights = first.values;
+    let list = read.list;
     Ok(TableText {
-        weights: first.values,
-        list: read.list,
+        weights,
+        list,
         horizon: last.values[0],
     })
 }
