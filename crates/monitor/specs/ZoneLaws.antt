@@ -9,7 +9,7 @@ use Rattle.monitor.specs.Zone.{min_sigma, max_sigma, zone_s, zone_a1, zone_b1, z
 -- ---- the zone by the offset from the centre: below it, above it, and on it
 
 pub zone_below : (t : ℤ) (sigma : ℕ) → t <ℤ pos 0 → zone_at t sigma ≡ band sigma (unsigned_abs t) zone_c2 zone_b2 zone_a2
-zone_below (pos n) sigma h = absurd (omega (arith, h))
+zone_below (pos n) sigma h = absurd (omega (arith, h.lt))
 zone_below (negsuc n) sigma h = refl
 
 pub zone_above : (t : ℤ) (sigma : ℕ) → pos 0 <ℤ t → zone_at t sigma ≡ band sigma (unsigned_abs t) zone_c1 zone_b1 zone_a1
