@@ -1,6 +1,6 @@
 -- Laws of the zone of an offset, and of the zone of a reading by sigma.
-use Rattle.std.specs.Prelude.{◌≡◌, refl, Bool, true, false, cond, ℕ, zero, suc, ◌*◌, ◌<◌, ℤ, pos, negsuc, ◌-ℤ◌, ◌<ℤ◌, unsigned_abs, leb, Err, Ok}
-use Rattle.std.proofs.Common.{arith, ne_of_lt}
+use Rattle.std.specs.Prelude.{◌≡◌, refl, Bool, true, false, cond, ℕ, zero, suc, ◌*◌, ◌<◌, ℤ, pos, negsuc, ◌-ℤ◌, ◌<ℤ◌, int_lt, unsigned_abs, leb, Err, Ok}
+use Rattle.std.proofs.Common.{arith, ltb-true, ne_of_lt}
 use Rattle.rules.specs.Bounds.{zone_count}
 use Rattle.rules.specs.Check.{within}
 use Rattle.rules.specs.Refusal.{bad_sigma}
@@ -8,8 +8,8 @@ use Rattle.monitor.specs.Zone.{min_sigma, max_sigma, zone_s, zone_a1, zone_b1, z
 
 -- ---- the zone by the offset from the centre: below it, above it, and on it
 
-pub zone_below : (t : ℤ) (sigma : ℕ) → t <ℤ pos 0 → zone_at t sigma ≡ band sigma (unsigned_abs t) zone_c2 zone_b2 zone_a2
-zone_below (pos n) sigma h = absurd (omega (arith, h.lt))
+pub zone_below : (t : ℤ) (sigma : ℕ) → int_lt t (pos 0) ≡ true → zone_at t sigma ≡ band sigma (unsigned_abs t) zone_c2 zone_b2 zone_a2
+zone_below (pos n) sigma h = absurd (omega (arith, ltb-true n 0 h))
 zone_below (negsuc n) sigma h = refl
 
 pub zone_above : (t : ℤ) (sigma : ℕ) → pos 0 <ℤ t → zone_at t sigma ≡ band sigma (unsigned_abs t) zone_c1 zone_b1 zone_a1
