@@ -37,6 +37,7 @@ impl Bracket {
 }
 
 // Whether the chances sum to at most probability one. Nothing wraps: what is left of it falls by each chance.
+#[tactic(auto, using(crate::specs::TotalLaws::total_within, runlength::proofs::CdfLaws::cdf_zero, runlength::proofs::CdfLaws::cdf_more))]
 fn sum_fits(pmf: &[u64]) -> bool
     ensures { result ≡ leb (cdf_of pmf.now (length pmf.now)) units_per_one }
 {
@@ -51,6 +52,7 @@ fn sum_fits(pmf: &[u64]) -> bool
 }
 
 // The bracket that the two bounds make.
+#[tactic(auto, unfolding(crate::specs::Bracket::bracket_by))]
 fn bracket_by(low: Option<u32>, high: Option<u32>, len: u32) -> Bracket
     ensures { result ≡ bracket_by low high len }
 {
@@ -70,6 +72,7 @@ fn bracket_by(low: Option<u32>, high: Option<u32>, len: u32) -> Bracket
 }
 
 // The bracket of a percentile, where none of the bracket's refusals applies. For the crates of this repository: it has a `requires`.
+#[tactic(auto, unfolding(crate::specs::Bracket::percentile_bracket))]
 pub fn find_bracket(pmf: &[u64], state_count: u32, percent: u32) -> Bracket
     requires { AcceptedBracket pmf.now state_count percent }
     ensures { result ≡ percentile_bracket pmf.now state_count percent }

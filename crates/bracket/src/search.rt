@@ -14,7 +14,7 @@ fn hundredth(percent: u32, more: u64) -> u64
     requires { (percent ≤ max_percent) × (more ≤ percents_per_one) }
     ensures { result ≡ (percent * units_per_one + more) / percents_per_one }
 {
-    let share = percent as u64;
+    let share = u64::from(percent);
     share * (UNITS_PER_ONE / PERCENTS_PER_ONE)
         + (share * (UNITS_PER_ONE % PERCENTS_PER_ONE) + more) / PERCENTS_PER_ONE
 }
@@ -40,7 +40,7 @@ pub(crate) fn lower(pmf: &[u64], state_count: u32, percent: u32) -> Option<u32>
     requires { Summable pmf.now × (state_count ≤ max_states) × (percent ≤ max_percent) }
     ensures { result ≡ least (low_test pmf.now state_count percent) (length pmf.now) }
 {
-    let slack = state_count as u64 + 1;
+    let slack = u64::from(state_count) + 1;
     let goal = hundredth(percent, PERCENTS_PER_ONE);
     first_reaching(pmf, slack, goal)
 }

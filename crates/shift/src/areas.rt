@@ -65,6 +65,7 @@ pub(crate) const AREAS: [u32; LAST + 1] = [
 ];
 
 // The area from 0 to z hundredths. For the crates of this repository, which see to the bound.
+#[tactic(auto, unfolding(crate::specs::Area::area_at, crate::specs::Area::areas))]
 pub fn area_at(z: usize) -> u32
     requires { z ≤ last_area }
     ensures { result ≡ area_at z }

@@ -39,6 +39,7 @@ fn below(table: &[u32], i: usize) -> u32
 }
 
 // The weights of a core that is shifted by t - 150 hundredths: the limits of the zones, less the shift, are 100 hundredths apart.
+#[tactic(auto, using(crate::proofs::ShiftLaws::limits_rise, crate::proofs::ShiftLaws::weights_computed), unfolding(crate::specs::Area::areas))]
 fn weights_at(t: usize) -> ZoneWeights
     requires { t ≤ 2 * max_shift }
     ensures { result ≡ weights_of (sub_ℕ t max_shift) }

@@ -1,5 +1,4 @@
 -- The laws of the definitions in specs/.
 pub mod ChainCheckLaws
-pub mod ChainCheckedLaws
 pub mod TableLaws
 pub mod AcceptedTableLaws

@@ -10,13 +10,14 @@ use rules::{Refusal, RuleList, ZONES};
 use runlength::{MAX_HORIZON, MIN_HORIZON, WEIGHT_TOTAL};
 
 // The exact sum of the weights: a few 32-bit numbers do not fill 64 bits.
+#[tactic(auto, using(runlength::specs::SumLaws::sum_zero, runlength::specs::SumLaws::sum_more))]
 fn weight_sum(weights: &[u32]) -> u64
     requires { length weights.now ≡ zone_count }
     ensures { result ≡ sum zone_count (at weights.now) }
 {
     let mut total: u64 = 0;
-    for z in 0..ZONES {
-        total += u64::from(weights[z]);
+    for weight in weights {
+        total += u64::from(*weight);
     }
     total
 }

@@ -1,15 +1,9 @@
 -- `chain::chain_moves` meets its contract: too many states explored, or those that are explored merged.
-use mathlib.Core.Path.{refl}
-use native.Mathlib.Omega.{arith}
+use Rattle.std.proofs.Common.{arith, refl, rules}
 use Rattle.rules.specs.Check.{active_rules}
 use Rattle.rules.proofs.CheckLaws.{accepted}
 use Rattle.chain.specs.HeldMovesLaws.{explored_count_lem, explored_merge, merged_held}
-use borrow.Author.Rules.{rules}
 use Rattle.chain.proofs.chain_moves.Goals as goal
-
--- auto slice_bounds-explore-end
-
--- auto slice_bounds-explore-end-2
 
 pub explore-n-requires : goal.explore-n-requires
 explore-n-requires c =
@@ -21,13 +15,9 @@ returns-then-n-gt-MAX_STATES c =
     let n = explored_count_lem (active_rules c.args.list) c.explore-n.ensures in
     record { made = (omega (arith, c.if-n-gt-MAX_STATES.true), refl); kept = refl }
 
--- auto slice_bounds-merge-end
-
 pub merge-count-requires : goal.merge-count-requires
 merge-count-requires c =
     explored_merge (active_rules c.args.list) c.explore-n.ensures c.if-n-gt-MAX_STATES.false _ c.requires.moves_len
-
--- auto shape_of-moves
 
 pub returns : goal.returns
 returns c =

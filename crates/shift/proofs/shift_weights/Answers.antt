@@ -5,11 +5,10 @@ use Prim.Native.Nat.{ℕ, ◌*◌, ◌≤◌, ◌<◌}
 use mathlib.Core.Path.{◌≡◌, sym, ap, ◌∙◌, subst}
 use mathlib.Core.Bool.{Bool, true, false, cond}
 use borrow.Author.Tests.{ltb-true, ltb-false}
-use lib.Dec.{T}
 use lib.IntN.{ℤ, pos, negsuc, nat_abs, sub_ℕ, ◌+ℤ◌}
-use lib.Signed.{lt_z, non_neg}
-use mir.Syntax.{w32, w64}
-use mir.Val.{Fits, SFits, to_z, of_z}
+use lib.Signed.{lt_z}
+use mir.Syntax.{w32}
+use mir.Val.{SFits, to_z, of_z}
 use mir.ValLaws.{to_z-of_z}
 use Rattle.shift.specs.Shift.{max_shift, weights_of}
 use Rattle.shift.proofs.ShiftLaws.{in_bounds}
@@ -79,24 +78,6 @@ pub returns-then-shift-gt-MAX_SHIFT : goal.returns-then-shift-gt-MAX_SHIFT
 returns-then-shift-gt-MAX_SHIFT c =
     let s = c.args.shift in
     sym (shift_refused s (far_above s (test_back s c.ranges.shift (λ (z : ℤ). lt_z (pos 150) z) true c.if-shift-gt-MAX_SHIFT.true)))
-
-pub overflow_add-shift : goal.overflow_add-shift
-overflow_add-shift c =
-    let s = c.args.shift in
-    let f = c.ranges.shift in
-    raised_fits s f (within s f c.if-shift-lt-MIN_SHIFT.false c.if-shift-gt-MAX_SHIFT.false)
-
-pub overflow_cast-shift : goal.overflow_cast-shift
-overflow_cast-shift c =
-    let s = c.args.shift in
-    let f = c.ranges.shift in
-    subst (λ (z : ℤ). T (non_neg z) × Fits w64 (nat_abs z)) (sym (raised_back s f (within s f c.if-shift-lt-MIN_SHIFT.false c.if-shift-gt-MAX_SHIFT.false))) (tt, record { fits = omega (arith, t_most s f (within s f c.if-shift-lt-MIN_SHIFT.false c.if-shift-gt-MAX_SHIFT.false)) })
-
-pub weights_at-requires : goal.weights_at-requires
-weights_at-requires c =
-    let s = c.args.shift in
-    let f = c.ranges.shift in
-    subst (λ (z : ℤ). nat_abs z ≤ 2 * max_shift) (sym (raised_back s f (within s f c.if-shift-lt-MIN_SHIFT.false c.if-shift-gt-MAX_SHIFT.false))) (t_most s f (within s f c.if-shift-lt-MIN_SHIFT.false c.if-shift-gt-MAX_SHIFT.false))
 
 pub returns : goal.returns
 returns c =

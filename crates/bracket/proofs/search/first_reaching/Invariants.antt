@@ -1,11 +1,6 @@
--- `search::first_reaching` meets its contract. The invariant: the sum is that of the first n chances, and none of them reached the goal.
-use Prim.Native.Nat.{◌-◌}
-use lib.ListN.{length}
+-- `search::first_reaching` meets its contract. The invariant: the sum is that of the first chances, and none of them reached the goal.
 use Rattle.bracket.specs.Crossing.{Searched}
 use Rattle.bracket.proofs.search.first_reaching.Given as goal
 
-abbrev pub invariant-loop-n : goal.invariant-loop-n
-invariant-loop-n l = Searched l.pmf l.slack l.goal l.sum l.n
-
-abbrev pub decreases-loop-n : goal.decreases-loop-n
-decreases-loop-n l = length l.pmf - l.n
+abbrev pub invariant-loop-i : goal.invariant-loop-i
+invariant-loop-i l = Searched l.pmf l.slack l.goal l.sum l.i

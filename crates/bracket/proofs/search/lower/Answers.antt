@@ -1,7 +1,5 @@
 -- `search::lower` meets its contract: the search it makes is the search for low.
-use mathlib.Core.Path.{◌∙◌}
-use native.Mathlib.Omega.{arith}
-use lib.ListN.{length}
+use Rattle.std.proofs.Common.{◌∙◌, arith, length}
 use Rattle.bracket.proofs.CrossingLaws.{search_low}
 use Rattle.bracket.proofs.search.lower.Goals as goal
 

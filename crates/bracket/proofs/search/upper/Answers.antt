@@ -1,7 +1,5 @@
 -- `search::upper` meets its contract: the search it makes is the search for high.
-use mathlib.Core.Path.{◌∙◌}
-use native.Mathlib.Omega.{arith}
-use lib.ListN.{length}
+use Rattle.std.proofs.Common.{◌∙◌, arith, length}
 use Rattle.bracket.proofs.CrossingLaws.{search_high}
 use Rattle.bracket.proofs.search.upper.Goals as goal
 

@@ -1,8 +1,0 @@
--- `shift::area_at` meets its contract: the code's table is the definition's, number by number.
-use mathlib.Core.Path.{refl}
-use Rattle.shift.specs.Area.{area_at, areas}
-use Rattle.shift.proofs.areas.area_at.Goals as goal
-
-pub returns : goal.returns
-unfolding area_at areas
-returns c = refl
