@@ -1,4 +1,5 @@
 -- `text::digits` meets its contract. The invariant: what is read from here on is what was to be read from the start.
+use borrow.Author.Rules.{rules}
 use native.Mathlib.Omega.{arith}
 use mathlib.Core.Path.{refl, sym, ap, ◌∙◌}
 use Rattle.decimal.proofs.Digit.{stop_end, stop_low, stop_high, over, on}
@@ -15,16 +16,16 @@ pub returns-then-b-gt57 : goal.returns-then-b-gt57
 returns-then-b-gt57 c = sym (stop_high _ _ _ c.loop-i-test.true c.if-b-gt57.true) ∙ c.loop-i.invariant.1
 
 pub overflow_add-v : goal.overflow_add-v
-overflow_add-v c = omega (arith, c.shared_slice_known-in-loop-i-1.given c.loop-i.i)
+overflow_add-v c = search rules
 
 pub returns-then-v-gt-LARGEST : goal.returns-then-v-gt-LARGEST
 returns-then-v-gt-LARGEST c =
-    let e = ap (more c.loop-i.v) c.wide.ensures in
+    let e = ap (more c.loop-i.v) c.from.ensures in
     sym (over _ _ _ c.loop-i-test.true c.if-b-lt48.false c.if-b-gt57.false (rw e at c.if-v-gt-LARGEST.true)) ∙ c.loop-i.invariant.1
 
 pub loop-i-preserved : goal.loop-i-preserved
 loop-i-preserved c =
-    let e = ap (more c.loop-i.v) c.wide.ensures in
+    let e = ap (more c.loop-i.v) c.from.ensures in
     (omega arith, rw e (sym (on _ _ _ c.loop-i-test.true c.if-b-lt48.false c.if-b-gt57.false (rw e at c.if-v-gt-LARGEST.false)) ∙ c.loop-i.invariant.1))
 
 pub returns : goal.returns

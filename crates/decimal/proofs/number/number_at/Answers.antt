@@ -22,4 +22,4 @@ overflow_add-at c = let h = c.byte_at-b.ensures.within (omega arith) in omega ar
 pub returns : goal.returns
 returns c =
     c.digits.ensures ∙ sym
-    (number_some _ _ _ c.byte_at-b.ensures.is _ c.wide.ensures c.if-b-lt48.false c.if-b-gt57.false c.if-b-eq48.false)
+    (number_some _ _ _ c.byte_at-b.ensures.is _ c.from.ensures c.if-b-lt48.false c.if-b-gt57.false c.if-b-eq48.false)
