@@ -1,22 +1,15 @@
 -- `text::digits` meets its contract. The invariant: what is read from here on is what was to be read from the start.
-use borrow.Author.Rules.{rules}
 use native.Mathlib.Omega.{arith}
-use mathlib.Core.Path.{refl, sym, ap, ◌∙◌}
+use mathlib.Core.Path.{sym, ap, ◌∙◌}
 use Rattle.decimal.proofs.Digit.{stop_end, stop_low, stop_high, over, on}
 use Rattle.decimal.specs.Number.{more}
 use Rattle.decimal.proofs.number.digits.Goals as goal
-
-pub loop-i-init : goal.loop-i-init
-loop-i-init c = (c.requires, refl)
 
 pub returns-then-b-lt48 : goal.returns-then-b-lt48
 returns-then-b-lt48 c = sym (stop_low _ _ _ c.loop-i-test.true c.if-b-lt48.true) ∙ c.loop-i.invariant.1
 
 pub returns-then-b-gt57 : goal.returns-then-b-gt57
 returns-then-b-gt57 c = sym (stop_high _ _ _ c.loop-i-test.true c.if-b-gt57.true) ∙ c.loop-i.invariant.1
-
-pub overflow_add-v : goal.overflow_add-v
-overflow_add-v c = search rules
 
 pub returns-then-v-gt-LARGEST : goal.returns-then-v-gt-LARGEST
 returns-then-v-gt-LARGEST c =

@@ -7,9 +7,6 @@ use Rattle.decimal.proofs.Sign.{minus_none, minus_zero, minus_over, minus_some, 
 use Rattle.decimal.specs.Signed.{raised_of}
 use Rattle.decimal.proofs.signed.signed_at.Goals as goal
 
-pub overflow_add-at : goal.overflow_add-at
-overflow_add-at c = let h = c.byte_at.ensures.within (omega arith) in omega arith
-
 pub returns-in_err-n : goal.returns-in_err-n
 returns-in_err-n c =
     let r : c.from_residual.result ≡ None = search rules in

@@ -1,11 +1,8 @@
 -- `text::past` meets its contract. The invariant: what is left of the word decides from here on as the whole did from the start.
 use Rattle.decimal.proofs.Letter.{word_end, text_end, differs, agrees}
-use mathlib.Core.Path.{refl, sym, ◌∙◌}
+use mathlib.Core.Path.{sym, ◌∙◌}
 use borrow.Author.Rules.{rules}
 use Rattle.decimal.proofs.word.past.Goals as goal
-
-pub loop-byte-init : goal.loop-byte-init
-loop-byte-init c = (search rules, refl)
 
 pub returns-then-text-i : goal.returns-then-text-i
 returns-then-text-i c = sym (text_end _ _ _ _ c.loop-byte-test.true c.if-text-i.true) ∙ c.loop-byte.invariant.1
