@@ -19,13 +19,13 @@ zone_call {reading} {centre} {x} {c} ex ec sigma z z' r a t e q code after =
     record { code = code ∙ sym (ap (λ (y : Result ℕ Refusal). check_code (checked y)) is); zone = after ∙ sym (ap (λ (y : Result ℕ Refusal). zone_after y z) is) }
 
 -- k is the list that the call made of the slots, b the step's answer, which is t
-pub step_call : (l k : RuleList) (m : Monitor) (z : ℕ) (s p a s' p' a' : List ℕ) (r : ℕ) (b t : Step) → k ≡ l → b ≡ step_of k m z → b ≡ t
+pub step_call : (l k : RuleList) (m : Monitor) (z : ℕ) (s p a s' p' a' : List ℕ) (r : ℕ) (b t : Result Step Refusal) → k ≡ l → b ≡ step_of k m z → b ≡ t
     → r ≡ check_code (checked t) → s' ≡ state_after t s → p' ≡ points_after t p → a' ≡ answer_after t a → StepCall l m z s p a s' p' a' r
 step_call l k m z s p a s' p' a' r b t made e q code state points answer =
     let is : step_of l m z ≡ t = ap (λ (y : RuleList). step_of y m z) (sym made) ∙ sym e ∙ q in
     record {
-      code = code ∙ sym (ap (λ (y : Step). check_code (checked y)) is);
-      state = state ∙ sym (ap (λ (y : Step). state_after y s) is);
-      points = points ∙ sym (ap (λ (y : Step). points_after y p) is);
-      answer = answer ∙ sym (ap (λ (y : Step). answer_after y a) is);
+      code = code ∙ sym (ap (λ (y : Result Step Refusal). check_code (checked y)) is);
+      state = state ∙ sym (ap (λ (y : Result Step Refusal). state_after y s) is);
+      points = points ∙ sym (ap (λ (y : Result Step Refusal). points_after y p) is);
+      answer = answer ∙ sym (ap (λ (y : Result Step Refusal). answer_after y a) is);
     }

@@ -11,7 +11,7 @@ use Rattle.codes.specs.Codes.{check_code}
 use Rattle.table.specs.Table.{CallResult, call_result}
 
 -- a is the table's answer
-module _ (t : TableCall) (f : List ℕ) {p' s' : List ℕ} {a : (Result TableFigures Refusal)} (called : call_result a p' s' ≡ table_of t) where
+module _ (t : TableCall) (f : List ℕ) {p' s' : List ℕ} {a : Result TableFigures Refusal} (called : call_result a p' s' ≡ table_of t) where
   pub call_refused : {x : Refusal} (r : ℕ) → a ≡ Err x → r ≡ code_of x → TableCalled t f p' s' f r
   call_refused {x} r e q =
       let is : (table_of t).answer ≡ Err x = sym (ap (λ (y : CallResult (Result TableFigures Refusal)). y.answer) called) ∙ e in

@@ -1,8 +1,7 @@
 -- What each code says, by the definition that the function's contract is an equation with. Laws.
 use Rattle.std.specs.Prelude.{ℕ, ◌≡◌, refl, List, Bool, true, false, cond, eqb, ℤ, Err, Ok}
 use Rattle.std.proofs.Common.{sym, ap, ◌∙◌, arith, ne_eqb}
-use Rattle.rules.specs.Refusal.{number_of}
-use Rattle.rules.specs.Refusal.{place_of}
+use Rattle.rules.specs.Refusal.{number_of, place_of}
 use Rattle.rules.specs.declared.RuleList.{RuleList}
 use Rattle.rules.specs.declared.refusal.Refusal.{Refusal}
 use Rattle.rules.specs.Check.{checked, Checked, unless, check_of}
@@ -13,7 +12,7 @@ use Rattle.monitor.specs.Zone.{zone_of}
 use Rattle.monitor.specs.Step.{step_of}
 use Rattle.monitor.specs.Reading.{reading_check}
 use Rattle.batch.specs.declared.Batch.{Batch}
-use Rattle.batch.specs.Batch.{batch_of, Ends, unrefused, full}
+use Rattle.batch.specs.Batch.{batch_of, Ends, unrefused as unrefused_lem, full}
 use Rattle.batch.proofs.BatchLaws.{batch_refused, batch_ends}
 use Rattle.table.specs.Table.{TableCall, table_check, table_of}
 use Rattle.bracket.specs.Bracket.{bracket_of}
@@ -25,7 +24,7 @@ use Rattle.monitor_report.specs.MonitorReport.{monitor_printed}
 use Rattle.weights_report.specs.WeightsReport.{weights_printed}
 use Rattle.write.specs.Refused.{refused_line}
 use Rattle.codes.specs.Codes.{check_code}
-use Rattle.call_arrays.specs.BatchArrays.{batch_checked}
+use Rattle.call_arrays.specs.BatchArrays.{batch_checked, unrefused}
 use Rattle.capi.specs.ReportCall.{printed_checked}
 use Rattle.table_claims.specs.TableOutput.{table_numbers}
 use Rattle.table_claims.proofs.TableNumbers.{table_refusals}
@@ -59,9 +58,9 @@ unfolding all_fit
 batch_checked_lem l m centre sigma xs = go (reading_check l m sigma) refl
   where
     ended : (b : Batch) → Ends b → batch_checked b ≡ Ok tt
-    ended b (unrefused e) = go (eqb b.taken 0)
+    ended b (unrefused_lem e) = go (eqb b.taken 0)
       where
-        go : (t : Bool) → cond t (unless (eqb b.refusal.number 0) b.refusal) (Ok tt) ≡ Ok tt
+        go : (t : Bool) → cond t (unrefused b.refusal) (Ok tt) ≡ Ok tt
         go true = rw e
         go false = refl
     ended b (full e t c) = rw (ne_eqb b.taken 0 (λ z. omega arith))
@@ -69,7 +68,7 @@ batch_checked_lem l m centre sigma xs = go (reading_check l m sigma) refl
     go : (c : Checked) → reading_check l m sigma ≡ c → batch_checked (batch_of l m centre sigma xs) ≡ reading_check l m sigma
     go (Ok tt) e = ended (batch_of l m centre sigma xs) (batch_ends l centre sigma m xs e) ∙ sym e
     go (Err x) e =
-        rw (batch_refused l m centre sigma xs x e, ne_eqb (number_of x) 0 (some_number batch_numbers refl (batch_number l m sigma x e))) (sym e)
+        rw (batch_refused l m centre sigma xs x e) (sym e)
 
 pub batch_says : (l : RuleList) (m : Monitor) (centre : ℤ) (sigma : ℕ) (xs : List ℤ)
     → Coded batch_numbers (reading_check l m sigma) (check_code (batch_checked (batch_of l m centre sigma xs)))

@@ -1,8 +1,7 @@
 -- TO BELIEVE: the code of a call, a refusal as one number, and a rule list as a caller passes it. Definitions.
 use Rattle.std.specs.Prelude.{ℕ, ◌+◌, ◌*◌, ◌/◌, ◌%◌, List, [], ◌∷◌, get_or, Err, Ok}
 use Rattle.rules.specs.Check.{Checked}
-use Rattle.rules.specs.Refusal.{number_of}
-use Rattle.rules.specs.Refusal.{place_of}
+use Rattle.rules.specs.Refusal.{number_of as refusal_number, place_of as refusal_place}
 use Rattle.rules.specs.declared.Rule.{Rule}
 use Rattle.rules.specs.declared.RuleList.{RuleList}
 use Rattle.rules.specs.declared.refusal.Refusal.{Refusal}
@@ -21,7 +20,7 @@ slot_list slots count = record {
 
 -- a refusal as one number: its number in the low 32 bits, its place above them
 abbrev pub code_of : Refusal → ℕ
-code_of x = (number_of x) + 4294967296 * (place_of x)
+code_of x = refusal_number x + 4294967296 * refusal_place x
 
 -- the code of a call, whichever it is: 0 where it is accepted, else its refusal
 abbrev pub check_code : Checked → ℕ

@@ -35,6 +35,11 @@ by_order : {A : Type 0} (a : A) (refusal : Refusal → A) (c : Checked) {Order :
     → (x : Refusal) → (a ≡ refusal x) ↔ Order x
 by_order a refusal c f to from x = (λ e. f.to x (to x e), λ o. from x (f.from x o))
 
+-- an answer that does not accept is refused by what its check says
+refused_back : {A : Type 0} (a : Result A Refusal) (x : Refusal) → checked a ≡ Err x → a ≡ Err x
+refused_back (Ok b) x e = not_both x e
+refused_back (Err y) x e = let same : y ≡ x = cc in ap Err same
+
 pub list : (l : RuleList) (x : Refusal) → (check_of l ≡ Err x) ↔ ListOrder l x
 list l x = ((list_order l).to x, (list_order l).from x)
 
@@ -47,7 +52,7 @@ zone reading centre sigma =
     by_order (zone_of reading centre sigma) Err (unless (within min_sigma max_sigma sigma) bad_sigma)
     (last (sigma_then sigma none_left))
     (λ x e. sym (as_test (within min_sigma max_sigma sigma)) ∙ ap checked e)
-    (λ x e. back (zone_of reading centre sigma) x (as_test (within min_sigma max_sigma sigma) ∙ e))
+    (λ x e. refused_back (zone_of reading centre sigma) x (as_test (within min_sigma max_sigma sigma) ∙ e))
   where
     as_test : (b : Bool)
         → checked (cond b (Ok (zone_at (reading -ℤ centre) sigma)) (Err bad_sigma))
@@ -55,20 +60,11 @@ zone reading centre sigma =
     as_test true = refl
     as_test false = refl
 
-    back : (a : Result ℕ Refusal) (x : Refusal) → checked a ≡ Err x → a ≡ Err x
-    back (Ok z) x e = not_both x e
-    back (Err y) x e = let same : y ≡ x = cc in ap Err same
-
 pub step : (l : RuleList) (m : Monitor) (z : ℕ) (x : Refusal) → (step_of l m z ≡ Err x) ↔ StepOrder l m z x
 step l m z =
     by_order (step_of l m z) Err (step_check l m z) (step_order l m z)
     (λ x e. sym (step_checked_lem l m z) ∙ ap checked e)
-    (λ x e. back (step_of l m z) x (step_checked_lem l m z ∙ e))
-  where
-    back : (a : Result Step Refusal) (x : Refusal) → checked a ≡ Err x → a ≡ Err x
-    back (Ok (Step.Quiet count next)) x e = not_both x e
-    back (Ok (Step.Signal count mask next)) x e = not_both x e
-    back (Err y) x e = let same : y ≡ x = cc in ap Err same
+    (λ x e. refused_back (step_of l m z) x (step_checked_lem l m z ∙ e))
 
 pub batch : (l : RuleList) (m : Monitor) (centre : ℤ) (sigma : ℕ) (xs : List ℤ) (x : Refusal)
     → (batch_checked (batch_of l m centre sigma xs) ≡ Err x) ↔ BatchOrder l m sigma x
@@ -122,24 +118,17 @@ bracket chances count p =
     by_order (bracket_of chances count p) Err (bracket_check chances count p)
     (bracket_order chances count p)
     (λ x e. sym (bracket_checked_lem chances count p) ∙ ap checked e)
-    (λ x e. back (bracket_of chances count p) x (bracket_checked_lem chances count p ∙ e))
-  where
-    back : (a : Result Bracket Refusal) (x : Refusal) → checked a ≡ Err x → a ≡ Err x
-    back (Ok found) x e = not_both x e
-    back (Err y) x e = let same : y ≡ x = cc in ap Err same
+    (λ x e. refused_back (bracket_of chances count p) x (bracket_checked_lem chances count p ∙ e))
 
 pub shift : (s : ℤ) (x : Refusal) → (shift_of s ≡ Err x) ↔ ShiftOrder s x
 unfolding shift_of
 shift s =
     by_order (shift_of s) Err (unless (leb (nat_abs s) max_shift) bad_shift) (shift_order s)
     (λ x e. sym (as_test (leb (nat_abs s) max_shift)) ∙ ap checked e)
-    (λ x e. back (shift_of s) x (as_test (leb (nat_abs s) max_shift) ∙ e))
+    (λ x e. refused_back (shift_of s) x (as_test (leb (nat_abs s) max_shift) ∙ e))
   where
     as_test : (b : Bool) → checked (cond b (Ok (weights_of s)) (Err bad_shift))
         ≡ unless b bad_shift
     as_test true = refl
     as_test false = refl
 
-    back : (a : Result ZoneWeights Refusal) (x : Refusal) → checked a ≡ Err x → a ≡ Err x
-    back (Ok w) x e = not_both x e
-    back (Err y) x e = let same : y ≡ x = cc in ap Err same

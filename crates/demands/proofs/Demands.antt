@@ -3,7 +3,6 @@
 use Rattle.std.specs.Prelude.{ℕ, suc, ◌+◌, ◌-◌, ◌*◌, ◌/◌, ◌^◌, ◌≤◌, ◌<◌, ◌≡◌, true, List, [], ◌↔◌, ℤ, Err, Ok}
 use Rattle.rules.specs.declared.RuleList.{RuleList}
 use Rattle.rules.specs.declared.refusal.Refusal.{Refusal}
-use Rattle.rules.specs.Refusal.{refusal}
 use Rattle.rules.specs.Check.{active_rules, check_of}
 use Rattle.runlength.specs.Scale.{max_horizon, weight_total, units_per_one}
 use Rattle.runlength.specs.Sum.{at, sum}
@@ -40,7 +39,7 @@ use Rattle.table_claims.proofs.TableProgram.{table_program_by_row}
 use Rattle.monitor_claims.specs.MonitorOutput.{MonitorProgram}
 use Rattle.monitor_claims.proofs.MonitorProgram.{monitor_program}
 use Rattle.demands.specs.Order.{ListOrder, ZoneOrder, StepOrder, BatchOrder, TableOrder, BracketOrder, ShiftOrder}
-use Rattle.demands.specs.TextOrder.{TableTextOrder, MonitorTextOrder, WeightsTextOrder}
+use Rattle.demands.specs.TextOrder.{Told, TableTextOrder, MonitorTextOrder, WeightsTextOrder}
 use Rattle.demands.specs.Kept.{OperationsKeep, ExportedKeep}
 use Rattle.demands.proofs.AnswerOrderLaws as answer
 use Rattle.demands.proofs.TextOrderLaws as text
@@ -82,11 +81,11 @@ pub record Demand1 : Type 0 where
   pub shift : (s : ℤ) (x : Refusal) → (shift_of s ≡ Err x) ↔ ShiftOrder s x
   -- a program prints the line of a refusal, and nothing else, exactly where that is the first of the text's order
   pub table_program_refuses : (s : List ℕ) (n place : ℕ)
-      → (printed_bytes (table_printed s) ≡ refused_line n place) ↔ TableTextOrder s (refusal n place)
+      → (printed_bytes (table_printed s) ≡ refused_line n place) ↔ Told (TableTextOrder s) n place
   pub monitor_program_refuses : (s : List ℕ) (n place : ℕ)
-      → (printed_bytes (monitor_printed s) ≡ refused_line n place) ↔ MonitorTextOrder s (refusal n place)
+      → (printed_bytes (monitor_printed s) ≡ refused_line n place) ↔ Told (MonitorTextOrder s) n place
   pub weights_program_refuses : (s : List ℕ) (n place : ℕ)
-      → (printed_bytes (weights_printed s) ≡ refused_line n place) ↔ WeightsTextOrder s (refusal n place)
+      → (printed_bytes (weights_printed s) ≡ refused_line n place) ↔ Told (WeightsTextOrder s) n place
   -- 'a refusal alters no lent buffer'
   pub operations : OperationsKeep
   pub exported : ExportedKeep

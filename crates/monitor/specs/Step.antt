@@ -1,7 +1,8 @@
 -- TO BELIEVE: the monitor's step. Refusals in the order 2, 3, 4; 6; 5; 7. Definitions.
-use Rattle.std.specs.Prelude.{ℕ, ◌+◌, List, ltb, Err, Ok}
+use Rattle.std.specs.Prelude.{ℕ, ◌+◌, List, ltb, Err, Ok, Result}
 use Rattle.rules.specs.declared.Rule.{Rule}
 use Rattle.rules.specs.declared.RuleList.{RuleList}
+use Rattle.rules.specs.declared.refusal.Refusal.{Refusal}
 use Rattle.rules.specs.Bounds.{zone_count, max_number}
 use Rattle.rules.specs.Refusal.{bad_state, bad_zone, bad_count}
 use Rattle.rules.specs.Check.{Checked, or_else, unless, check_of, active_rules}

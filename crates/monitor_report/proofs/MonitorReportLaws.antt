@@ -71,30 +71,30 @@ module _ {chart chart' : List ℤ → List Answer} {n : ℕ} (same : (xs : List 
 
 -- ---- the report of a text
 
-module _ (s out : List ℕ) (t : MonitorText) (is : t ≡ monitor_text s) where
-  pub monitor_refused : (t.refusal.number ≡ 0 → ⊥) → report (Err t.refusal) out ≡ report_of (monitor_printed s) out
+module _ (s out : List ℕ) where
+  pub monitor_refused : (x : Refusal) → monitor_text s ≡ Err x → report (Err x) out ≡ report_of (monitor_printed s) out
   unfolding monitor_printed
-  monitor_refused n = rw (← is, ne_eqb t.refusal.number 0 n)
+  monitor_refused x e = rw e
 
-  module _ (read : t.refusal.number ≡ 0) where
+  module _ {t : MonitorText} (read : monitor_text s ≡ Ok t) where
     pub rules_refused : (x : Refusal) → check_of t.list ≡ Err x → report (Err x) out ≡ report_of (monitor_printed s) out
     unfolding monitor_printed
-    rules_refused x e = rw (← is, eq-eqb t.refusal.number 0 read, e)
+    rules_refused x e = rw (read, e)
 
     module _ (ok : check_of t.list ≡ Ok tt) where
       pub sigma_refused : within min_sigma max_sigma t.sigma ≡ false → report (Err bad_sigma) out ≡ report_of (monitor_printed s) out
       unfolding monitor_printed
-      sigma_refused h = rw (← is, eq-eqb t.refusal.number 0 read, ok, h)
+      sigma_refused h = rw (read, ok, h)
 
       module _ (fits : within min_sigma max_sigma t.sigma ≡ true) where
-        text_read : ReadMonitor s
-        text_read = read_monitor_lem s (rw (← is) read)
+        text_read : ReadMonitor s t
+        text_read = read_monitor_lem s t read
 
         pub text_short : length s ≤ max_text
         text_short = text_read.short
 
         pub points_bench : OnBench (points_at s t.points)
-        points_bench = rw (is, text_read.points) text_read.bench
+        points_bench = rw text_read.points text_read.bench
 
         pub points_few : min_point * length (points_at s t.points) ≤ length s
         points_few = points_fit (length s) s t.points
@@ -108,4 +108,4 @@ module _ (s out : List ℕ) (t : MonitorText) (is : t ≡ monitor_text s) where
             let taken = taken_one_by_one t.list ok t.centre t.sigma in
             let bytes = bytes_same {n = max_number} taken ps (omega (arith, points_few, text_short)) in
             as_written {p = monitor_printed s} out out' r
-            (rw (← is, eq-eqb t.refusal.number 0 read, ok, fits, bytes)) (rw c at w)
+            (rw (read, ok, fits, bytes)) (rw c at w)

@@ -29,14 +29,14 @@ use Rattle.table_text.specs.declared.TableText.{TableText}
 use Rattle.rule_lines.specs.Rules.{rule_list_of}
 use Rattle.rule_lines.specs.RulesLaws.{active_rules_lem, rules_few}
 use Rattle.table_text.specs.TableText.{table_given, table_text}
-use Rattle.table_text.specs.ReadTable.{refused_table, read_table}
+use Rattle.table_text.specs.ReadTable.{read_table}
 use Rattle.table_lines.specs.RowLine.{row_line, table_rows}
 use Rattle.table_lines.specs.PercentLine.{percent_lines}
 use Rattle.table_lines.specs.LargestHorizon.{max_rows}
 use Rattle.table_lines.specs.TableLines.{table_bytes}
 use Rattle.write.specs.Printed.{refused_by, printed_bytes}
 use Rattle.table_lines.specs.LargestHorizon.{report_horizon}
-use Rattle.table_report.specs.TableReport.{report_call, table_lines, summary_lines, blank, table_printed}
+use Rattle.table_report.specs.TableReport.{text_lines, report_call, table_lines, summary_lines, blank, table_printed}
 use Rattle.table_report.specs.TableReportLaws.{horizon_small}
 use Rattle.grammar.specs.Grammar.{Contents}
 use Rattle.grammar.specs.TextReading.{read_text}
@@ -194,14 +194,10 @@ module _ (s : List ℕ) (w : List ℕ) (rs : List Rule) (h : ℕ) (is : TableTex
 -- For every text: one refusal line, with the number and the place of a reason that holds of the text; or the text is the lines of weights w,
 -- rules rs and a horizon h, and what is printed is the lines of figures that are those over rows of the plain chart.
 pub table_program_by_row : (s : List ℕ) → TableProgramByRow s (printed_bytes (table_printed s))
-unfolding table_printed printed_bytes table_text table_given refused_table read_table
+unfolding table_printed printed_bytes table_text table_given read_table
 table_program_by_row s = go (read_text table_grammar s) (reading_is table_grammar clear_table s)
   where
-    printed : TableText → List ℕ
-    printed t =
-        printed_bytes (cond (eqb t.refusal.number 0) (summary_lines (summary_of (report_call t)) (report_horizon t.horizon)) (refused_by t.refusal))
-
-    go : (r : Reading (Contents table_grammar)) → ReadingIs table_grammar s r → TableProgramByRow s (printed (table_given r))
+    go : (r : Reading (Contents table_grammar)) → ReadingIs table_grammar s r → TableProgramByRow s (printed_bytes (text_lines (table_given r)))
     go r (too_long_lem l) = refuses_by_row (number_of too_long) 0 refl (table_too_long l)
     go r (wrong {n} l st) = refuses_by_row (number_of (bad_line n)) n refl (table-bad-line n l st)
     go r (right {c} l t) =
@@ -223,11 +219,14 @@ table_program s = go (table_program_by_row s)
 -- a text that is the lines of weights, rules and a horizon which make a chart has no reason to be refused
 no_refusal : {s : List ℕ} {w : List ℕ} {rs : List Rule} {h : ℕ} → TableTextIs s w rs h
     → chain_check (rule_list_of rs) w (report_horizon h) ≡ Ok tt → {n p : ℕ} → TableRefusal s n p → ⊥
-unfolding refused_table read_table
+unfolding read_table
 no_refusal {s} {w} {rs} {h} is ok r = go r
   where
-    clash : {t : TableText} → table_text s ≡ t → (t.refusal.number ≡ 0 → ⊥) → ⊥
-    clash e n = n (ap (λ (t : TableText). t.refusal.number) (sym e ∙ table_read is))
+    clash : {x : Refusal} → table_text s ≡ Err x → ⊥
+    clash {x} e =
+        let same : ◌≡◌ {A = Result TableText Refusal} (Err x) (Ok (read_table w rs h)) = sym e ∙ table_read is in
+        let z : ◌≡◌ {A = ℕ} 0 1 = cc in
+        omega arith
 
     checked : {w' : List ℕ} {rs' : List Rule} {h' : ℕ} {x : Refusal} → TableTextIs s w' rs' h'
         → chain_check (rule_list_of rs') w' (report_horizon h') ≡ Err x → ⊥
@@ -238,8 +237,8 @@ no_refusal {s} {w} {rs} {h} is ok r = go r
         omega arith
 
     go : {n p : ℕ} → TableRefusal s n p → ⊥
-    go (table_too_long l) = clash (text-too-long s l) (λ z. omega arith)
-    go (table-bad-line place l st) = clash (table_stopped l st) (λ z. omega arith)
+    go (table_too_long l) = clash (text-too-long s l)
+    go (table-bad-line place l st) = clash (table_stopped l st)
     go (bad_table w' rs' h' x is' c o) = checked is' c
 
 -- The other way round: a text that is the lines of weights, rules and a horizon which make a chart is not refused.

@@ -1,7 +1,7 @@
 -- What the table program prints, case by case, and what an accepted table leaves for its lines. Laws.
 use Rattle.std.specs.Prelude.{◌≡◌, refl, Bool, true, false, cond, List, ℕ, ◌≤◌, leb, length, Err, Ok, Result}
 use Rattle.std.proofs.Common.{sym, ap, ◌∙◌, le_refl, arith}
-use borrow.Author.Tests.{leb-true, eq-eqb, ne_eqb}
+use borrow.Author.Tests.{leb-true}
 use Rattle.rules.specs.declared.refusal.Refusal.{Refusal}
 use Rattle.runlength.specs.Scale.{units_per_one}
 use Rattle.runlength.specs.Chain.{cdf_of}
@@ -30,7 +30,7 @@ horizon_small h = go (leb h max_rows) (leb-true h max_rows)
 
 -- ---- an accepted table can be printed
 
-module _ (t : TableCall) {a : (Result Summary Refusal)} {p q : List ℕ} {s : Summary} (run : call_result a p q ≡ summary_of t) (accepted : a ≡ Ok s) where
+module _ (t : TableCall) {a : Result Summary Refusal} {p q : List ℕ} {s : Summary} (run : call_result a p q ≡ summary_of t) (accepted : a ≡ Ok s) where
   call : AcceptedSummary t s
   call = accepted_summary t s (ap (λ (r : CallResult (Result Summary Refusal)). r.answer) (sym run) ∙ accepted)
 
@@ -48,17 +48,17 @@ module _ (t : TableCall) {a : (Result Summary Refusal)} {p q : List ℕ} {s : Su
 
 -- ---- the report of a text
 
-module _ (s out : List ℕ) (t : TableText) (is : t ≡ table_text s) where
-  pub text_refused : (t.refusal.number ≡ 0 → ⊥) → report (Err t.refusal) out ≡ report_of (table_printed s) out
+module _ (s out : List ℕ) where
+  pub text_refused : (x : Refusal) → table_text s ≡ Err x → report (Err x) out ≡ report_of (table_printed s) out
   unfolding table_printed
-  text_refused n = rw (← is, ne_eqb t.refusal.number 0 n)
+  text_refused x e = rw e
 
   -- h is the program's horizon, and a the answer to it
-  module _ (read : t.refusal.number ≡ 0) (h : ℕ) (horizon : h ≡ report_horizon t.horizon) (a : Result Summary Refusal) (p q : List ℕ)
+  module _ {t : TableText} (read : table_text s ≡ Ok t) (h : ℕ) (horizon : h ≡ report_horizon t.horizon) (a : Result Summary Refusal) (p q : List ℕ)
       (run : call_result a p q ≡ summary_of (table_call t.list t.weights h blank blank)) where
     printed : table_printed s ≡ summary_lines (call_result a p q) h
     unfolding table_printed
-    printed = rw (← is, eq-eqb t.refusal.number 0 read, ← horizon, ← run)
+    printed = rw (read, ← horizon, ← run)
 
     pub table_refused : (x : Refusal) → a ≡ Err x → report (Err x) out ≡ report_of (table_printed s) out
     table_refused x e = as_refused x out (printed ∙ ap (λ (y : Result Summary Refusal). summary_lines (call_result y p q) h) e)

@@ -15,7 +15,6 @@ use Rattle.grammar.specs.Size.{max_text}
 use Rattle.grammar.specs.Blocks.{Begins, here}
 use Rattle.grammar.proofs.TextStopsLaws.{stops_by}
 use Rattle.table_text.specs.TableGrammar.{weights_word, weights_line, table_grammar}
-use Rattle.table_text.specs.ReadTable.{refused_table}
 use Rattle.table_text.specs.TableTextLaws.{clear_table}
 use Rattle.write.specs.Refused.{refused_line}
 use Rattle.write.specs.Printed.{printed_bytes}
@@ -44,5 +43,5 @@ module _ (ws rest : List ℕ) (other : length ws ≡ zone_count → ⊥) where
   -- The text begins with a weights line of some other number of weights: it is refused by 16, and the place is line 1.
   pub weights_counted : length (weights_bytes ws ++ rest) ≤ max_text
       → printed_bytes (table_printed (weights_bytes ws ++ rest)) ≡ refused_line (number_of (bad_line 1)) 1
-  unfolding table_printed printed_bytes refused_table
+  unfolding table_printed printed_bytes
   weights_counted short = rw (table_stopped short (stops_by table_grammar clear_table.0 (here none_begins)))
