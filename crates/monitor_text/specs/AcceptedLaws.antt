@@ -71,12 +71,12 @@ points_again s c e =
 
 -- ---- a text that is not refused
 
-pub record ReadMonitor (s : List ℕ) : Type 0 where
+pub record ReadMonitor (s : List ℕ) (t : MonitorText) : Type 0 where
   pub contents : Contents monitor_grammar
   pub is : read_text monitor_grammar s ≡ read contents
   pub short : length s ≤ max_text
   pub bench : OnBench (points_said contents.1.1.0)
-  pub points : monitor_points s ≡ points_said contents.1.1.0
+  pub points : points_at s t.points ≡ points_said contents.1.1.0
 
 -- what a text whose contents are read gives, where every node is one of the bench's
 pub bench_read : (s : List ℕ) (c : Contents monitor_grammar) → read_text monitor_grammar s ≡ read c → OnBench (points_said c.1.1.0)
@@ -84,16 +84,16 @@ pub bench_read : (s : List ℕ) (c : Contents monitor_grammar) → read_text mon
 unfolding monitor_text monitor_of bench_or
 bench_read s c e o = rw (e, le-ltb (bench_points (points_said c.1.1.0)) (length (points_said c.1.1.0)) (omega (arith, bench_all (points_said c.1.1.0) o)))
 
-pub read_monitor_lem : (s : List ℕ) {t : MonitorText} → monitor_text s ≡ Ok t → ReadMonitor s
+pub read_monitor_lem : (s : List ℕ) (t : MonitorText) → monitor_text s ≡ Ok t → ReadMonitor s t
 unfolding monitor_text monitor_of bench_or read_monitor
-read_monitor_lem s {t} z = go (read_text monitor_grammar s) refl z
+read_monitor_lem s t z = go (read_text monitor_grammar s) refl z
   where
     points_are : (c : Contents monitor_grammar) → read_text monitor_grammar s ≡ read c → OnBench (points_said c.1.1.0)
-        → monitor_points s ≡ points_said c.1.1.0
-    points_are c e o = ap (points_in s) (bench_read s c e o) ∙ points_again s c e
+        → points_at s t.points ≡ points_said c.1.1.0
+    points_are c e o = ap (points_in s) (sym z ∙ bench_read s c e o) ∙ points_again s c e
 
     benched : (c : Contents monitor_grammar) → read_text monitor_grammar s ≡ read c → (b : Bool)
-        → ltb (bench_points (points_said c.1.1.0)) (length (points_said c.1.1.0)) ≡ b → monitor_of (read c) ≡ Ok t → ReadMonitor s
+        → ltb (bench_points (points_said c.1.1.0)) (length (points_said c.1.1.0)) ≡ b → monitor_of (read c) ≡ Ok t → ReadMonitor s t
     benched c e true h z =
         let y = rw h at z in
         let f : ◌≡◌ {A = ℕ} 0 1 = cc in
@@ -102,7 +102,7 @@ read_monitor_lem s {t} z = go (read_text monitor_grammar s) refl z
         let o = all_bench (points_said c.1.1.0) (ltb-false _ _ h) in
         record { contents = c; is = e; short = (lines_at s c e).short; bench = o; points = points_are c e o }
 
-    go : (y : Reading (Contents monitor_grammar)) → read_text monitor_grammar s ≡ y → monitor_of y ≡ Ok t → ReadMonitor s
+    go : (y : Reading (Contents monitor_grammar)) → read_text monitor_grammar s ≡ y → monitor_of y ≡ Ok t → ReadMonitor s t
     go (read c) e z = benched c e (ltb (bench_points (points_said c.1.1.0)) (length (points_said c.1.1.0))) refl z
     go (stopped n) e z = let f : ◌≡◌ {A = ℕ} 0 1 = cc in absurd (omega arith)
     go long e z = let f : ◌≡◌ {A = ℕ} 0 1 = cc in absurd (omega arith)
