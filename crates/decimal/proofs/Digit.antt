@@ -11,16 +11,16 @@ use Rattle.decimal.specs.Number.{more, digits_from, number_at}
 use Rattle.decimal.specs.SpansLaws.{drop_here}
 
 module _ (s : List ℕ) (i v : ℕ) where
-  pub stop_end : length s ≤ i → digits_from (drop i s) v i ≡ Some (v , i)
+  pub stop_end : length s ≤ i → digits_from (drop i s) v i ≡ Some (v, i)
   unfolding digits_from
   stop_end h = rw (drop_of_length-le s h)
 
   module _ (h : i < length s) where
-    pub stop_low : get_or s i 0 < 48 → digits_from (drop i s) v i ≡ Some (v , i)
+    pub stop_low : get_or s i 0 < 48 → digits_from (drop i s) v i ≡ Some (v, i)
     unfolding digits_from
     stop_low l = rw (drop_here s i h, lt-ltb _ _ l)
 
-    pub stop_high : 57 < get_or s i 0 → digits_from (drop i s) v i ≡ Some (v , i)
+    pub stop_high : 57 < get_or s i 0 → digits_from (drop i s) v i ≡ Some (v, i)
     unfolding digits_from
     stop_high l = rw (drop_here s i h, le-ltb (get_or s i 0) 48 (omega arith), lt-ltb _ _ l)
 
@@ -43,7 +43,7 @@ module _ (s : List ℕ) (i b : ℕ) (e : b ≡ get_or s i 0) where
   unfolding number_at
   number_high h = rw (← e, le-ltb b 48 (omega arith), lt-ltb 57 b h)
 
-  pub number_zero : b ≡ 48 → number_at s i ≡ Some (0 , (i + 1))
+  pub number_zero : b ≡ 48 → number_at s i ≡ Some (0, (i + 1))
   unfolding number_at
   number_zero z = rw (← e, le-ltb b 48 (omega arith), le-ltb 57 b (omega arith), eq-eqb b 48 z)
 

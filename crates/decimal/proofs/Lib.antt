@@ -1,4 +1,3 @@
 mod Digit
 mod Letter
-mod Minus
 mod Sign

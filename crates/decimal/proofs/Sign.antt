@@ -16,7 +16,7 @@ module _ (s : List ℕ) (i b : ℕ) (q : b ≡ get_or s i 0) where
     unfolding signed_at
     minus_none f = rw (← q, eq-eqb b minus_byte m, f)
 
-    module _ (n e : ℕ) (f : number_at s (i + 1) ≡ Some (n , e)) where
+    module _ (n e : ℕ) (f : number_at s (i + 1) ≡ Some (n, e)) where
       pub minus_zero : n ≡ 0 → signed_at s i ≡ NoSigned
       unfolding signed_at
       minus_zero z = rw (← q, eq-eqb b minus_byte m, f, eq-eqb n 0 z)
@@ -25,7 +25,7 @@ module _ (s : List ℕ) (i b : ℕ) (q : b ≡ get_or s i 0) where
       unfolding signed_at
       minus_over z o = rw (← q, eq-eqb b minus_byte m, f, ne_eqb n 0 z, lt-ltb max_negative n o)
 
-      pub minus_some : (n ≡ 0 → ⊥) → n ≤ max_negative → raised_of (signed_at s i) ≡ Some ((max_negative - n) , e)
+      pub minus_some : (n ≡ 0 → ⊥) → n ≤ max_negative → raised_of (signed_at s i) ≡ Some ((max_negative - n), e)
       unfolding signed_at
       minus_some z l =
           let a : suc (n - 1) ≡ n = omega arith in
@@ -36,11 +36,11 @@ module _ (s : List ℕ) (i b : ℕ) (q : b ≡ get_or s i 0) where
     unfolding signed_at
     plus_none f = rw (← q, ne_eqb b minus_byte m, f)
 
-    module _ (n e : ℕ) (f : number_at s i ≡ Some (n , e)) where
+    module _ (n e : ℕ) (f : number_at s i ≡ Some (n, e)) where
       pub plus_over : max_positive < n → signed_at s i ≡ NoSigned
       unfolding signed_at
       plus_over o = rw (← q, ne_eqb b minus_byte m, f, lt-ltb max_positive n o)
 
-      pub plus_some : n ≤ max_positive → raised_of (signed_at s i) ≡ Some ((max_negative + n) , e)
+      pub plus_some : n ≤ max_positive → raised_of (signed_at s i) ≡ Some ((max_negative + n), e)
       unfolding signed_at
       plus_some l = rw (← q, ne_eqb b minus_byte m, f, le-ltb max_positive n l)

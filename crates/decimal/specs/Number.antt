@@ -22,15 +22,15 @@ on_digit b digit other = cond (ltb b 48) other (cond (ltb 57 b) other digit)
 
 -- the digits at the start of the bytes, which stand at the offset i, behind those that gave v: the number and the offset past it
 unfoldable pub digits_from : List ℕ → ℕ → ℕ → Option (ℕ × ℕ)
-digits_from [] v i = Some (v , i)
+digits_from [] v i = Some (v, i)
 digits_from (b ∷ bs) v i =
-    on_digit b (cond (ltb max_number (more v b)) None (digits_from bs (more v b) (i + 1))) (Some (v , i))
+    on_digit b (cond (ltb max_number (more v b)) None (digits_from bs (more v b) (i + 1))) (Some (v, i))
 
 -- the number at i: a lone 0, or digits of which the first is not 0
 unfoldable pub number_at : List ℕ → ℕ → Option (ℕ × ℕ)
 number_at s i =
     on_digit (get_or s i 0)
-    (cond (eqb (get_or s i 0) 48) (Some (0 , (i + 1))) (digits_from (drop (i + 1) s) (get_or s i 0 - 48) (i + 1)))
+    (cond (eqb (get_or s i 0) 48) (Some (0, (i + 1))) (digits_from (drop (i + 1) s) (get_or s i 0 - 48) (i + 1)))
     None
 
 -- the number behind a comma
@@ -39,5 +39,5 @@ field_at s i = on_found (word_at comma s i) (number_at s) None
 
 -- what follows a number, or else
 abbrev pub on_number : {A : Type 0} → Option (ℕ × ℕ) → (ℕ → ℕ → A) → A → A
-on_number (Some (v , i)) f other = f v i
+on_number (Some (v, i)) f other = f v i
 on_number None f other = other

@@ -10,8 +10,16 @@ use Rattle.decimal.specs.Spans.{Spans}
 use Rattle.decimal.specs.SpansLaws.{drop_here, inside, spans_byte, spans_then}
 use Rattle.decimal.specs.Word.{comma, word_at, on_found}
 use Rattle.decimal.specs.WordLaws.{word_spans}
-use Rattle.decimal.specs.Number.{more, on_digit, digits_from, number_at, field_at}
+use Rattle.decimal.specs.Number.{more, on_digit, digits_from, number_at, field_at, on_number}
 use Rattle.decimal.specs.Fields.{field}
+
+-- a number and an offset are read as one pair only
+module _ {v i n j : ℕ} (e : ◌≡◌ {A = Option (ℕ × ℕ)} (Some (v, i)) (Some (n, j))) where
+  one_number : v ≡ n
+  one_number = ap (λ (x : Option (ℕ × ℕ)). on_number x (λ v i. v) 0) e
+
+  one_offset : i ≡ j
+  one_offset = ap (λ (x : Option (ℕ × ℕ)). on_number x (λ v i. i) 0) e
 
 -- the bytes l, behind digits that gave v, begin with digits that give n
 record Digits (l : List ℕ) (v i n j : ℕ) : Type 0 where
@@ -21,10 +29,10 @@ record Digits (l : List ℕ) (v i n j : ℕ) : Type 0 where
   past : j ≡ i + length ds
   fits : n ≤ max_number
 
-none : {l : List ℕ} {v i n j : ℕ} → v ≤ max_number → Some (v , i) ≡ Some (n , j) → Digits l v i n j
+none : {l : List ℕ} {v i n j : ℕ} → v ≤ max_number → ◌≡◌ {A = Option (ℕ × ℕ)} (Some (v, i)) (Some (n, j)) → Digits l v i n j
 none {l} {v} {i} {n} {j} h e =
-    let p : v ≡ n = cc in
-    let q : i ≡ j = cc in
+    let p : v ≡ n = one_number e in
+    let q : i ≡ j = one_offset e in
     record { ds = []; text = refl; bytes = rw p (sym (append-nil _)); past = omega arith; fits = omega arith }
 
 some : {bs : List ℕ} {b v i n j : ℕ} → 0 < v → 48 ≤ b → b ≤ 57 → Digits bs (more v b) (i + 1) n j → Digits (b ∷ bs) v i n j
@@ -51,20 +59,20 @@ is_digit b x y z e = low (ltb b 48) refl e
     low true q e = inl e
     low false q e = high (ltb 57 b) refl (ltb-false _ _ q) e
 
-is_within : (m n j : ℕ) (x : Option (ℕ × ℕ)) → cond (ltb max_number m) None x ≡ Some (n , j) → (m ≤ max_number) × (x ≡ Some (n , j))
+is_within : (m n j : ℕ) (x : Option (ℕ × ℕ)) → cond (ltb max_number m) None x ≡ Some (n, j) → (m ≤ max_number) × (x ≡ Some (n, j))
 is_within m n j x e = go (ltb max_number m) refl e
   where
-    go : (t : Bool) → ltb max_number m ≡ t → cond t None x ≡ Some (n , j) → (m ≤ max_number) × (x ≡ Some (n , j))
+    go : (t : Bool) → ltb max_number m ≡ t → cond t None x ≡ Some (n, j) → (m ≤ max_number) × (x ≡ Some (n, j))
     go true q e = let z : ◌≡◌ {A = ℕ} 0 1 = cc in absurd (omega arith)
     go false q e = (ltb-false _ _ q, e)
 
-digits_are : (l : List ℕ) (v i n j : ℕ) → 0 < v → v ≤ max_number → digits_from l v i ≡ Some (n , j) → Digits l v i n j
+digits_are : (l : List ℕ) (v i n j : ℕ) → 0 < v → v ≤ max_number → digits_from l v i ≡ Some (n, j) → Digits l v i n j
 unfolding digits_from
 digits_are [] v i n j p h e = none h e
 digits_are (b ∷ bs) v i n j p h e =
     ⊎_elim
-    (λ (stop : Some (v , i) ≡ Some (n , j)). none h stop)
-    (λ (d : (48 ≤ b) × (b ≤ 57) × (cond (ltb max_number (more v b)) None (digits_from bs (more v b) (i + 1)) ≡ Some (n , j))).
+    (λ (stop : ◌≡◌ {A = Option (ℕ × ℕ)} (Some (v, i)) (Some (n, j))). none h stop)
+    (λ (d : (48 ≤ b) × (b ≤ 57) × (cond (ltb max_number (more v b)) None (digits_from bs (more v b) (i + 1)) ≡ Some (n, j))).
     let w = is_within (more v b) n j _ d.2 in
     some p d.0 d.1 (digits_are bs (more v b) (i + 1) n j (omega arith) w.0 w.1))
     (is_digit b _ _ _ e)
@@ -74,11 +82,11 @@ pub record NumberIs (s : List ℕ) (i n j : ℕ) : Type 0 where
   pub spans : Spans s i (decimal n) j
   pub fits : n ≤ max_number
 
-zero_is : (s : List ℕ) (i n j : ℕ) → get_or s i 0 ≡ 48 → Some (0 , (i + 1)) ≡ Some (n , j) → NumberIs s i n j
+zero_is : (s : List ℕ) (i n j : ℕ) → get_or s i 0 ≡ 48 → ◌≡◌ {A = Option (ℕ × ℕ)} (Some (0, i + 1)) (Some (n, j)) → NumberIs s i n j
 unfolding decimal
 zero_is s i n j b e =
-    let p : 0 ≡ n = cc in
-    let q : i + 1 ≡ j = cc in
+    let p : 0 ≡ n = one_number e in
+    let q : i + 1 ≡ j = one_offset e in
     rw (← p, ← q) (record { spans = spans_byte s i 48 b (omega arith); fits = omega arith })
 
 digits_is : (s : List ℕ) (i n j : ℕ) → 48 < get_or s i 0 → get_or s i 0 ≤ 57 → Digits (drop (i + 1) s) (get_or s i 0 - 48) (i + 1) n j → NumberIs s i n j
@@ -91,27 +99,27 @@ digits_is s i n j l h d =
     let t : drop i s ≡ b ∷ drop (i + 1) s = drop_here s i (inside s i (omega arith)) in
     record { spans = record { text = rw (t, m) (ap (λ (l : List ℕ). b ∷ l) q); end = rw m (omega (arith, d.past)) }; fits = d.fits }
 
-pub number_is : (s : List ℕ) (i n j : ℕ) → number_at s i ≡ Some (n , j) → NumberIs s i n j
+pub number_is : (s : List ℕ) (i n j : ℕ) → number_at s i ≡ Some (n, j) → NumberIs s i n j
 unfolding number_at
 number_is s i n j e =
     ⊎_elim
-    (λ (no : None ≡ Some (n , j)). let z : ◌≡◌ {A = ℕ} 0 1 = cc in absurd (omega arith))
-    (λ (d : (48 ≤ get_or s i 0) × (get_or s i 0 ≤ 57) × (cond (eqb (get_or s i 0) 48) (Some (0 , (i + 1))) (digits_from (drop (i + 1) s) (get_or s i 0 - 48) (i + 1)) ≡ Some (n , j))).
+    (λ (no : None ≡ Some (n, j)). let z : ◌≡◌ {A = ℕ} 0 1 = cc in absurd (omega arith))
+    (λ (d : (48 ≤ get_or s i 0) × (get_or s i 0 ≤ 57) × (cond (eqb (get_or s i 0) 48) (Some (0, (i + 1))) (digits_from (drop (i + 1) s) (get_or s i 0 - 48) (i + 1)) ≡ Some (n, j))).
     go (eqb (get_or s i 0) 48) refl d.0 d.1 d.2)
     (is_digit (get_or s i 0) _ _ _ e)
   where
     go : (t : Bool) → eqb (get_or s i 0) 48 ≡ t → 48 ≤ get_or s i 0 → get_or s i 0 ≤ 57
-        → cond t (Some (0 , (i + 1))) (digits_from (drop (i + 1) s) (get_or s i 0 - 48) (i + 1)) ≡ Some (n , j) → NumberIs s i n j
+        → cond t (Some (0, (i + 1))) (digits_from (drop (i + 1) s) (get_or s i 0 - 48) (i + 1)) ≡ Some (n, j) → NumberIs s i n j
     go true q l h e = zero_is s i n j (eqb-true _ _ q) e
     go false q l h e =
         let u : get_or s i 0 ≡ 48 → ⊥ = eqb-false _ _ q in
         digits_is s i n j (omega arith) h (digits_are (drop (i + 1) s) (get_or s i 0 - 48) (i + 1) n j (omega arith) (omega arith) e)
 
 -- a field that is read as n is a comma and n in decimal
-pub field_is : (s : List ℕ) (i n j : ℕ) → field_at s i ≡ Some (n , j) → Spans s i (field n) j × (n ≤ max_number)
+pub field_is : (s : List ℕ) (i n j : ℕ) → field_at s i ≡ Some (n, j) → Spans s i (field n) j × (n ≤ max_number)
 unfolding field_at field
 field_is s i n j e = go (word_at comma s i) refl e
   where
-    go : (f : Option ℕ) → word_at comma s i ≡ f → on_found f (number_at s) None ≡ Some (n , j) → Spans s i (field n) j × (n ≤ max_number)
+    go : (f : Option ℕ) → word_at comma s i ≡ f → on_found f (number_at s) None ≡ Some (n, j) → Spans s i (field n) j × (n ≤ max_number)
     go (Some p) q e = let r = number_is s p n j e in (spans_then (word_spans comma s i p q) r.spans, r.fits)
     go None q e = let z : ◌≡◌ {A = ℕ} 0 1 = cc in absurd (omega arith)

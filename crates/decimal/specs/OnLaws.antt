@@ -9,5 +9,5 @@ found f other e = rw e
 pub absent : {A : Type 0} {x : (Option ℕ)} (f : ℕ → A) (other : A) → x ≡ None → on_found x f other ≡ other
 absent f other e = rw e
 
-pub number : {A : Type 0} {x : (Option (ℕ × ℕ))} (f : ℕ → ℕ → A) (other : A) {n i : ℕ} → x ≡ Some (n , i) → on_number x f other ≡ f n i
+pub number : {A : Type 0} {x : (Option (ℕ × ℕ))} (f : ℕ → ℕ → A) (other : A) {n i : ℕ} → x ≡ Some (n, i) → on_number x f other ≡ f n i
 number f other e = rw e

@@ -41,5 +41,5 @@ lowered n = cond (ltb n max_negative) (negsuc (max_negative - n - 1)) (pos (n - 
 
 -- what is read of a signed number: the unsigned one
 abbrev pub raised_of : Signed → Option (ℕ × ℕ)
-raised_of (Whole x i) = Some ((raised x) , i)
+raised_of (Whole x i) = Some ((raised x), i)
 raised_of NoSigned = None

@@ -31,7 +31,7 @@ not_met false x y j e = (refl, e)
 module _ (s : List ℕ) (i : ℕ) (x : ℤ) (j : ℕ) where
   plus_is : (f : Option (ℕ × ℕ)) → number_at s i ≡ f → plus f ≡ Whole x j → SignedIs s i x j
   unfolding signed_decimal
-  plus_is (Some (n , e)) q p =
+  plus_is (Some (n, e)) q p =
       let b = not_met (ltb max_positive n) _ x j p in
       let y : pos n ≡ x = cc in
       let k : e ≡ j = cc in
@@ -40,7 +40,7 @@ module _ (s : List ℕ) (i : ℕ) (x : ℤ) (j : ℕ) where
 
   minus_is : (f : Option (ℕ × ℕ)) → number_at s (i + 1) ≡ f → get_or s i 0 ≡ minus_byte → minus f ≡ Whole x j → SignedIs s i x j
   unfolding signed_decimal
-  minus_is (Some (n , e)) q m p =
+  minus_is (Some (n, e)) q m p =
       let a = not_met (eqb n 0) _ x j p in
       let b = not_met (ltb max_negative n) _ x j a.1 in
       let y : negsuc (n - 1) ≡ x = cc in

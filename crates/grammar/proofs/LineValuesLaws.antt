@@ -1,5 +1,5 @@
 -- A keyword and fields: what is read stands there, what stands there is read, and keywords tell such lines apart. Laws.
-use Rattle.std.specs.Prelude.{ℕ, ◌+◌, ◌*◌, ◌<◌, ◌≤◌, ◌≡◌, length, get_or, None, Option, Some}
+use Rattle.std.specs.Prelude.{ℕ, ◌+◌, ◌<◌, ◌≤◌, ◌≡◌, length, get_or, None, Option, Some}
 use Rattle.std.proofs.Math.Path.{refl}
 use Rattle.std.proofs.Common.{ap, inl, arith, length-append}
 use mathlib.Core.List.{List, [], ◌∷◌, ◌++◌, tail, head_d}
@@ -35,7 +35,7 @@ module _ (s : List ℕ) where
   value_is number p = go (field_at s p) refl
     where
       go : (x : Option (ℕ × ℕ)) → field_at s p ≡ x → ValueIs number p (on_number x found other)
-      go (Some (n , j)) e = field_is s p n j e
+      go (Some (n, j)) e = field_is s p n j e
       go None e = tt
   value_is signed p = go (signed_field_at s p) refl
     where

@@ -1,5 +1,5 @@
 -- What holds of a monitor text that is read: its points are those of the point lines from the offset on that is given. Laws.
-use Rattle.std.specs.Prelude.{ℕ, ◌+◌, ◌≤◌, ◌≡◌, refl, Bool, true, false, cond, List, [], ◌∷◌, leb, ltb, length}
+use Rattle.std.specs.Prelude.{ℕ, ◌+◌, ◌≤◌, ◌≡◌, refl, Bool, true, false, cond, List, [], ◌∷◌, leb, ltb, length, Ok}
 use Rattle.std.proofs.Common.{sym, ap, ◌∙◌, arith, leb-true, ltb-false, le-ltb}
 use Rattle.grammar.specs.Form.{Says, line}
 use Rattle.grammar.specs.Grammar.{many, Contents}
@@ -13,8 +13,8 @@ use Rattle.monitor_text.specs.declared.monitors.MonitorText.{MonitorText}
 use Rattle.monitor_text.specs.Readings.{OnBench, bench_points}
 use Rattle.monitor_text.specs.ReadingsLaws.{all_bench, bench_all}
 use Rattle.monitor_text.specs.MonitorGrammar.{chart_line, point_line, monitor_grammar, points_said}
-use Rattle.monitor_text.specs.MonitorText.{points_at, bench_or, monitor_of, monitor_text, monitor_points}
-use Rattle.monitor_text.specs.ReadMonitor.{refused_monitor, read_monitor, points_from}
+use Rattle.monitor_text.specs.MonitorText.{points_at, bench_or, points_in, monitor_of, monitor_text, monitor_points}
+use Rattle.monitor_text.specs.ReadMonitor.{read_monitor, points_from}
 use Rattle.monitor_text.specs.MonitorTextLaws.{points_begin}
 
 -- ---- where the lines of a text that is read stand
@@ -71,35 +71,38 @@ points_again s c e =
 
 -- ---- a text that is not refused
 
-pub record ReadMonitor (s : List ℕ) : Type 0 where
+pub record ReadMonitor (s : List ℕ) (t : MonitorText) : Type 0 where
   pub contents : Contents monitor_grammar
   pub is : read_text monitor_grammar s ≡ read contents
   pub short : length s ≤ max_text
   pub bench : OnBench (points_said contents.1.1.0)
-  pub points : monitor_points s ≡ points_said contents.1.1.0
+  pub points : points_at s t.points ≡ points_said contents.1.1.0
 
 -- what a text whose contents are read gives, where every node is one of the bench's
 pub bench_read : (s : List ℕ) (c : Contents monitor_grammar) → read_text monitor_grammar s ≡ read c → OnBench (points_said c.1.1.0)
-    → monitor_text s ≡ read_monitor c.0.0 c.0.1.0 (rules_said c.1.0) (points_from c.0 c.1.0)
+    → monitor_text s ≡ Ok (read_monitor c.0.0 c.0.1.0 (rules_said c.1.0) (points_from c.0 c.1.0))
 unfolding monitor_text monitor_of bench_or
 bench_read s c e o = rw (e, le-ltb (bench_points (points_said c.1.1.0)) (length (points_said c.1.1.0)) (omega (arith, bench_all (points_said c.1.1.0) o)))
 
-pub read_monitor_lem : (s : List ℕ) → (monitor_text s).refusal.number ≡ 0 → ReadMonitor s
-unfolding monitor_text monitor_of bench_or refused_monitor read_monitor
-read_monitor_lem s z = go (read_text monitor_grammar s) refl z
+pub read_monitor_lem : (s : List ℕ) (t : MonitorText) → monitor_text s ≡ Ok t → ReadMonitor s t
+unfolding monitor_text monitor_of bench_or read_monitor
+read_monitor_lem s t z = go (read_text monitor_grammar s) refl z
   where
     points_are : (c : Contents monitor_grammar) → read_text monitor_grammar s ≡ read c → OnBench (points_said c.1.1.0)
-        → points_at s (monitor_text s).points ≡ points_said c.1.1.0
-    points_are c e o = ap (λ (t : MonitorText). points_at s t.points) (bench_read s c e o) ∙ points_again s c e
+        → points_at s t.points ≡ points_said c.1.1.0
+    points_are c e o = ap (points_in s) (sym z ∙ bench_read s c e o) ∙ points_again s c e
 
     benched : (c : Contents monitor_grammar) → read_text monitor_grammar s ≡ read c → (b : Bool)
-        → ltb (bench_points (points_said c.1.1.0)) (length (points_said c.1.1.0)) ≡ b → (monitor_of (read c)).refusal.number ≡ 0 → ReadMonitor s
-    benched c e true h z = let y = rw h at z in absurd (omega arith)
+        → ltb (bench_points (points_said c.1.1.0)) (length (points_said c.1.1.0)) ≡ b → monitor_of (read c) ≡ Ok t → ReadMonitor s t
+    benched c e true h z =
+        let y = rw h at z in
+        let f : ◌≡◌ {A = ℕ} 0 1 = cc in
+        absurd (omega arith)
     benched c e false h z =
         let o = all_bench (points_said c.1.1.0) (ltb-false _ _ h) in
         record { contents = c; is = e; short = (lines_at s c e).short; bench = o; points = points_are c e o }
 
-    go : (y : Reading (Contents monitor_grammar)) → read_text monitor_grammar s ≡ y → (monitor_of y).refusal.number ≡ 0 → ReadMonitor s
+    go : (y : Reading (Contents monitor_grammar)) → read_text monitor_grammar s ≡ y → monitor_of y ≡ Ok t → ReadMonitor s t
     go (read c) e z = benched c e (ltb (bench_points (points_said c.1.1.0)) (length (points_said c.1.1.0))) refl z
-    go (stopped n) e z = absurd (omega arith)
-    go long e z = absurd (omega arith)
+    go (stopped n) e z = let f : ◌≡◌ {A = ℕ} 0 1 = cc in absurd (omega arith)
+    go long e z = let f : ◌≡◌ {A = ℕ} 0 1 = cc in absurd (omega arith)

@@ -1,5 +1,5 @@
 -- Point lines: what they say, and those who read them again. Laws.
-use Rattle.std.specs.Prelude.{ℕ, suc, ◌+◌, ◌*◌, ◌≤◌, ◌≡◌, refl, cond, List, [], ◌∷◌, ltb, ℤ, length, get_or, None, Some}
+use Rattle.std.specs.Prelude.{ℕ, suc, ◌+◌, ◌*◌, ◌≤◌, ◌≡◌, refl, cond, List, [], ◌∷◌, ltb, ℤ, length, get_or, None, Option, Some}
 use Rattle.std.proofs.Common.{sym, ap, ◌∙◌, arith}
 use Rattle.decimal.specs.Signed.{lowered}
 use Rattle.decimal.specs.SignedLaws.{lowered_raised}
@@ -42,17 +42,17 @@ bench_below (x ∷ xs) = ap (λ (n : ℕ). cond (ltb x.0 node_count) (suc n) 0) 
 -- ---- for those who read the points again
 
 -- what the parser gives is what is seen
-pub point_seen : (s : List ℕ) (i : ℕ) {l : LineRead} → l ≡ line_read_at point_word (number ∷ signed ∷ []) s i → {next : ℕ} → l.next ≡ Some next
-    → seen (line point_line) s i ≡ found (get_or l.values 0 0, (lowered (get_or l.values 1 0), tt)) next
+pub point_seen : (s : List ℕ) (i : ℕ) {r : Option LineRead} → r ≡ line_read_at point_word (number ∷ signed ∷ []) s i → {l : LineRead} → r ≡ Some l
+    → seen (line point_line) s i ≡ found (get_or l.values 0 0, (lowered (get_or l.values 1 0), tt)) l.next
 unfolding slots_of codes ValuesFit
-point_seen s i {l} e {next} q =
+point_seen s i e {l} q =
     let x = line_seen point_word (number ∷ signed ∷ []) s i e q in
     let node : x.vs.0 ≡ get_or l.values 0 0 = sym (ap (λ (v : List ℕ). get_or v 0 0) x.values) in
     let reading : x.vs.1.0 ≡ lowered (get_or l.values 1 0) =
     sym (ap (λ (v : List ℕ). lowered (get_or v 1 0)) x.values ∙ lowered_raised x.vs.1.0 x.fits.1.0) in
-    x.is ∙ (λ k. found (node k, (reading k, tt)) next)
+    x.is ∙ (λ k. found (node k, (reading k, tt)) l.next)
 
-pub no_point_seen : (s : List ℕ) (i : ℕ) {l : LineRead} → l ≡ line_read_at point_word (number ∷ signed ∷ []) s i → l.next ≡ None
+pub no_point_seen : (s : List ℕ) (i : ℕ) {r : Option LineRead} → r ≡ line_read_at point_word (number ∷ signed ∷ []) s i → r ≡ None
     → seen (line point_line) s i ≡ other
 no_point_seen s i e q = line_none point_word (number ∷ signed ∷ []) s i e q
 

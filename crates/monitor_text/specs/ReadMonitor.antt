@@ -1,5 +1,5 @@
 -- TO BELIEVE: what a monitor text is read as: its chart, its rules and where its points begin. Definitions.
-use Rattle.std.specs.Prelude.{ℕ, List, [], ◌∷◌, ℤ, pos, length}
+use Rattle.std.specs.Prelude.{ℕ, List, [], ◌∷◌, ℤ, length}
 use Rattle.rules.specs.declared.Rule.{Rule}
 use Rattle.grammar.specs.Form.{Says}
 use Rattle.grammar.specs.Grammar.{one, many, lines_of, bytes_of_all}

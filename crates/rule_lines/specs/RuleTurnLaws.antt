@@ -7,7 +7,7 @@ use Rattle.rules.specs.declared.Rule.{Rule}
 use Rattle.rules.specs.declared.RuleList.{RuleList}
 use Rattle.rules.specs.declared.refusal.Refusal.{Refusal}
 use Rattle.rules.specs.Ready.{rule_of}
-use Rattle.rules.specs.Refusal.{number_of, not_refused, bad_line}
+use Rattle.rules.specs.Refusal.{bad_line}
 use Rattle.decimal.specs.Word.{word_at, on_found}
 use Rattle.grammar.specs.LineValues.{Field, number}
 use Rattle.grammar.specs.Form.{Says, line}
@@ -38,17 +38,17 @@ given : {y : Seen (Says rule_line)} (w : Option ℕ) {vs : List ℕ} {x : Says r
 unfolding slots_of codes
 given w e v = rw (e, v)
 
-module _ (s : List ℕ) (at : ℕ) {r : LineRead} (e : r ≡ line_read_at rule_word three_numbers s at) where
-  pub rule_given : {next : ℕ} → r.next ≡ Some next
-      → RuleLine.Rule (get_or r.values 0 0) (get_or r.values 1 0) (get_or r.values 2 0) next ≡ rule_line_at s at
+module _ (s : List ℕ) (at : ℕ) {r : Option LineRead} (e : r ≡ line_read_at rule_word three_numbers s at) where
+  pub rule_given : {l : LineRead} → r ≡ Some l
+      → RuleLine.Rule (get_or l.values 0 0) (get_or l.values 1 0) (get_or l.values 2 0) l.next ≡ rule_line_at s at
   unfolding rule_line_at
-  rule_given {next} q = let x = line_seen rule_word three_numbers s at e q in given (word_at rule_word s at) x.is x.values
+  rule_given q = let x = line_seen rule_word three_numbers s at e q in given (word_at rule_word s at) x.is x.values
 
-  pub rule_not_begun : r.next ≡ None → word_at rule_word s at ≡ None → RuleLine.Absent ≡ rule_line_at s at
+  pub rule_not_begun : r ≡ None → word_at rule_word s at ≡ None → RuleLine.Absent ≡ rule_line_at s at
   unfolding rule_line_at
   rule_not_begun q w = rw (line_none rule_word three_numbers s at e q, w)
 
-  pub rule_begun : r.next ≡ None → {p : ℕ} → word_at rule_word s at ≡ Some p → RuleLine.Unreadable ≡ rule_line_at s at
+  pub rule_begun : r ≡ None → {p : ℕ} → word_at rule_word s at ≡ Some p → RuleLine.Unreadable ≡ rule_line_at s at
   unfolding rule_line_at
   rule_begun q w = rw (line_none rule_word three_numbers s at e q, w)
 
@@ -161,12 +161,12 @@ module _ {s : List ℕ} {at : ℕ} {l : RuleList} {i : ℕ} (h : HoldsRules s at
     count = holds_count ∙ ap length all.0
 
     pub holds_done : word_at rule_word s i ≡ None
-        → ◌≡◌ {A = RulesRead} (record { refusal = not_refused; list = l; next = i; line = first + l.len }) (rules_read s at first)
+        → ◌≡◌ {A = RulesRead} (record { refusal = None; list = l; next = i; line = first + l.len }) (rules_read s at first)
     unfolding rules_read
     holds_done w = rw (← all.1, w, ← list, ← count)
 
     pub holds_refused : (p : ℕ) → word_at rule_word s i ≡ Some p
-        → ◌≡◌ {A = RulesRead} (record { refusal = bad_line (first + l.len); list = l; next = i; line = first + l.len }) (rules_read s at first)
+        → ◌≡◌ {A = RulesRead} (record { refusal = Some (bad_line (first + l.len)); list = l; next = i; line = first + l.len }) (rules_read s at first)
     unfolding rules_read
     holds_refused p w = rw (← all.1, w, ← list, ← count)
 
@@ -186,15 +186,17 @@ module _ (s : List ℕ) (at first : ℕ) {r : RulesRead} (e : r ≡ rules_read s
   read_line_number = ap (λ (x : RulesRead). x.line) e
 
   -- a refusal is of the line behind the rules, which begins as one
-  pub read_refused : (r.refusal.number ≡ 0 → ⊥) → (r.refusal ≡ bad_line r.line) × ((p : ℕ) × (word_at rule_word s r.next ≡ Some p))
+  pub read_refused : {x : Refusal} → r.refusal ≡ Some x → (x ≡ bad_line r.line) × ((p : ℕ) × (word_at rule_word s r.next ≡ Some p))
   unfolding rules_read
-  read_refused n = go (word_at rule_word s (after_many (line rule_line) (length s) s at)) refl (ap (λ (x : RulesRead). x.refusal) e)
+  read_refused {x} n = go (word_at rule_word s (after_many (line rule_line) (length s) s at)) refl (sym n ∙ ap (λ (x : RulesRead). x.refusal) e)
     where
       go : (w : Option ℕ) → word_at rule_word s (after_many (line rule_line) (length s) s at) ≡ w
-          → r.refusal ≡ on_found w (λ p. bad_line (first + length (many_at (line rule_line) (length s) s at))) not_refused
-          → (r.refusal ≡ bad_line r.line) × ((p : ℕ) × (word_at rule_word s r.next ≡ Some p))
-      go (Some p) h q = (q ∙ ap bad_line (sym read_line_number), (p, ap (word_at rule_word s) read_next ∙ h))
-      go None h q = absurd (n (ap (λ (x : Refusal). (number_of x)) q))
+          → Some x ≡ on_found w (λ p. Some (bad_line (first + length (many_at (line rule_line) (length s) s at)))) None
+          → (x ≡ bad_line r.line) × ((p : ℕ) × (word_at rule_word s r.next ≡ Some p))
+      go (Some p) h q =
+          let y : x ≡ bad_line (first + length (many_at (line rule_line) (length s) s at)) = cc in
+          (y ∙ ap bad_line (sym read_line_number), (p, ap (word_at rule_word s) read_next ∙ h))
+      go None h q = let z : ◌≡◌ {A = ℕ} 0 1 = cc in absurd (omega arith)
 
   pub read_few : r.line ≤ first + length s
   unfolding least

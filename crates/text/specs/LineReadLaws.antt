@@ -15,12 +15,12 @@ use Rattle.grammar.specs.TextReading.{on_seen, value_at, values_from, values_at,
 use Rattle.grammar.specs.Read.{Seen, found, other}
 use Rattle.grammar.proofs.FormLaws.{seen_fits}
 use Rattle.text.specs.declared.lines.LineRead.{LineRead}
-use Rattle.text.specs.LineRead.{most_fields, field_of, fields_of, code, codes, slots_of, line_read, no_line, line_of, line_read_at, code_at, codes_from}
+use Rattle.text.specs.LineRead.{most_fields, field_of, fields_of, code, codes, slots_of, line_read, line_of, line_read_at, code_at, codes_from}
 
 -- ---- one field, and all of them
 
 abbrev value_code : (f : Field) → Seen (Value f) → Option (ℕ × ℕ)
-value_code f (found x e) = Some ((code f x) , e)
+value_code f (found x e) = Some ((code f x), e)
 value_code f other = None
 
 code_seen : (f : Field) (s : List ℕ) (p : ℕ) → code_at f s p ≡ value_code f (value_at f s p)
@@ -28,7 +28,7 @@ unfolding value_at
 code_seen number s p = go (field_at s p)
   where
     go : (x : Option (ℕ × ℕ)) → x ≡ value_code number (on_number x found other)
-    go (Some (n , e)) = refl
+    go (Some (n, e)) = refl
     go None = refl
 code_seen signed s p = go (signed_field_at s p)
   where
@@ -37,15 +37,15 @@ code_seen signed s p = go (signed_field_at s p)
     go NoSigned = refl
 
 -- behind the values w
-abbrev behind : List ℕ → (fs : List Field) → Seen (Values fs) → LineRead
-behind w fs (found x next) = line_read (Some next) (w ++ codes fs x)
-behind w fs other = no_line
+abbrev behind : List ℕ → (fs : List Field) → Seen (Values fs) → Option LineRead
+behind w fs (found x next) = Some (line_read next (w ++ codes fs x))
+behind w fs other = None
 
 codes_seen : (fs : List Field) (s : List ℕ) (p : ℕ) (w : List ℕ) → codes_from fs s p w ≡ behind w fs (values_from fs s p)
 unfolding codes_from values_from codes
 codes_seen [] s p w = go (word_at newline s p)
   where
-    go : (x : Option ℕ) → on_found x (λ next. line_read (Some next) w) no_line ≡ behind w [] (on_found x (λ next. found tt next) other)
+    go : (x : Option ℕ) → on_found x (λ next. Some (line_read next w)) None ≡ behind w [] (on_found x (λ next. found tt next) other)
     go (Some next) = rw (append-nil w)
     go None = refl
 codes_seen (f ∷ fs) s p w = rw (code_seen f s p) (go (value_at f s p) (λ x e. codes_seen fs s e (w ++ (x ∷ []))))
@@ -57,7 +57,7 @@ codes_seen (f ∷ fs) s p w = rw (code_seen f s p) (go (value_at f s p) (λ x e.
 
     go : (y : Seen (Value f))
         → ((x e : ℕ) → codes_from fs s e (w ++ (x ∷ [])) ≡ behind (w ++ (x ∷ [])) fs (values_from fs s e))
-        → on_number (value_code f y) (λ x e. codes_from fs s e (w ++ (x ∷ []))) no_line
+        → on_number (value_code f y) (λ x e. codes_from fs s e (w ++ (x ∷ []))) None
         ≡ behind w (f ∷ fs) (on_seen y (λ x e. on_seen (values_from fs s e) (λ xs next. found (x, xs) next) other) other)
     go (found x e) ih = ih (code f x) e ∙ more x (values_from fs s e)
     go other ih = refl
@@ -72,7 +72,7 @@ module _ (w : List ℕ) (fs : List Field) (s : List ℕ) (at : ℕ) where
   unfolding values_at line_read_at
   line_word p e = rw e (codes_seen fs s p [] ∙ behind_none fs (values_from fs s p))
 
-  pub line_no_word : word_at w s at ≡ None → no_line ≡ line_read_at w fs s at
+  pub line_no_word : word_at w s at ≡ None → line_read_at w fs s at ≡ None
   unfolding values_at line_read_at
   line_no_word e = rw e
 
@@ -112,62 +112,63 @@ places_kept (suc n) zero (a ∷ w) e c =
 places_kept (suc n) (suc i) (a ∷ w) e c = ap (λ (l : List ℕ). a ∷ l) (places_kept n i w (omega arith) (clean_tail c))
 
 -- what is read from p on, the first i values being in w
-abbrev pub rest : List ℕ → List ℕ → ℕ → List ℕ → ℕ → LineRead
+abbrev pub rest : List ℕ → List ℕ → ℕ → List ℕ → ℕ → Option LineRead
 rest letters s p w i = codes_from (fields_of (drop i letters)) s p (take i w)
 
 module _ (letters s : List ℕ) (p : ℕ) (w : List ℕ) (i : ℕ) (h : i < length letters) where
   letter_here : fields_of (drop i letters) ≡ field_of (get_or letters i 0) ∷ fields_of (drop (i + 1) letters)
   letter_here = rw (drop-cons letters i 0 h, add-one)
 
-  pub next_value : (x e : ℕ) → code_at (field_of (get_or letters i 0)) s p ≡ Some (x , e) → i < length w
+  pub next_value : (x e : ℕ) → code_at (field_of (get_or letters i 0)) s p ≡ Some (x, e) → i < length w
       → rest letters s p w i ≡ rest letters s e (set w i x) (i + 1)
   unfolding codes_from
   next_value x e q l = rw (letter_here, q, add-one, take-suc-set w i x l)
 
-  pub no_value : code_at (field_of (get_or letters i 0)) s p ≡ None → rest letters s p w i ≡ no_line
+  pub no_value : code_at (field_of (get_or letters i 0)) s p ≡ None → rest letters s p w i ≡ None
   unfolding codes_from
   no_value q = rw (letter_here, q)
 
 -- all are read
 module _ (letters s : List ℕ) (p : ℕ) (w : List ℕ) (i : ℕ) (h : length letters ≤ i) where
   pub line_ends : (e : ℕ) → word_at newline s p ≡ Some e → length w ≡ most_fields → Clean w i
-      → rest letters s p w i ≡ record { next = Some e; values = w }
+      → rest letters s p w i ≡ Some (record { next = e; values = w })
   unfolding codes_from
   line_ends e q l c = rw (drop_of_length-le letters h, q, places_kept most_fields i w l c)
 
-  pub line_goes_on : word_at newline s p ≡ None → rest letters s p w i ≡ no_line
+  pub line_goes_on : word_at newline s p ≡ None → rest letters s p w i ≡ None
   unfolding codes_from
   line_goes_on q = rw (drop_of_length-le letters h, q)
 
 -- ---- what is seen, from what the parser gives
 
-pub record SeenLine (word : List ℕ) (fs : List Field) (s : List ℕ) (at : ℕ) (r : LineRead) (next : ℕ) : Type 0 where
+pub record SeenLine (word : List ℕ) (fs : List Field) (s : List ℕ) (at : ℕ) (l : LineRead) : Type 0 where
   pub vs : Values fs
-  pub is : seen (line (named word fs)) s at ≡ found vs next
+  pub is : seen (line (named word fs)) s at ≡ found vs l.next
   pub fits : ValuesFit fs vs
-  pub values : r.values ≡ slots_of most_fields (codes fs vs)
+  pub values : l.values ≡ slots_of most_fields (codes fs vs)
 
-abbrev next_in : Option ℕ → ℕ
-next_in (Some n) = n
-next_in None = 0
+-- a line given is one line only
+module _ {l m : LineRead} (e : Some l ≡ Some m) where
+  one_line : l ≡ m
+  one_line = cc
 
-module _ (word : List ℕ) (fs : List Field) (s : List ℕ) (at : ℕ) {r : LineRead} (e : r ≡ line_read_at word fs s at) where
-  pub line_seen : {next : ℕ} → r.next ≡ Some next → SeenLine word fs s at r next
+module _ (word : List ℕ) (fs : List Field) (s : List ℕ) (at : ℕ) {r : Option LineRead} (e : r ≡ line_read_at word fs s at) where
+  pub line_seen : {l : LineRead} → r ≡ Some l → SeenLine word fs s at l
   unfolding line_read_at seen seen_kind
-  line_seen {next} q = go (values_at word fs s at) refl (sym (ap (λ (l : LineRead). l.next) e) ∙ q) (ap (λ (l : LineRead). l.values) e)
+  line_seen {l} q = go (values_at word fs s at) refl (sym e ∙ q)
     where
-      go : (y : Seen (Values fs)) → values_at word fs s at ≡ y → (line_of fs y).next ≡ Some next → r.values ≡ (line_of fs y).values
-          → SeenLine word fs s at r next
-      go (found x n) h p v =
-          let seen_here : seen (line (named word fs)) s at ≡ found x next = h ∙ ap (λ (i : ℕ). found x i) (ap next_in p) in
-          record { vs = x; is = seen_here; fits = seen_fits word fs s at seen_here; values = v }
-      go other h p v = let z : ◌≡◌ {A = ℕ} 0 1 = cc in absurd (omega arith)
+      go : (y : Seen (Values fs)) → values_at word fs s at ≡ y → line_of fs y ≡ Some l → SeenLine word fs s at l
+      go (found x n) h p =
+          let o : line_read n (codes fs x) ≡ l = one_line p in
+          let seen_here : seen (line (named word fs)) s at ≡ found x l.next = h ∙ ap (λ (m : LineRead). found x m.next) o in
+          record { vs = x; is = seen_here; fits = seen_fits word fs s at seen_here; values = ap (λ (m : LineRead). m.values) (sym o) }
+      go other h p = let z : ◌≡◌ {A = ℕ} 0 1 = cc in absurd (omega arith)
 
-  pub line_none : r.next ≡ None → seen (line (named word fs)) s at ≡ other
+  pub line_none : r ≡ None → seen (line (named word fs)) s at ≡ other
   unfolding line_read_at seen seen_kind
-  line_none q = go (values_at word fs s at) refl (sym (ap (λ (l : LineRead). l.next) e) ∙ q)
+  line_none q = go (values_at word fs s at) refl (sym e ∙ q)
     where
-      go : (y : Seen (Values fs)) → values_at word fs s at ≡ y → (line_of fs y).next ≡ None → values_at word fs s at ≡ other
+      go : (y : Seen (Values fs)) → values_at word fs s at ≡ y → line_of fs y ≡ None → values_at word fs s at ≡ other
       go (found x n) h p = let z : ◌≡◌ {A = ℕ} 0 1 = cc in absurd (omega arith)
       go other h p = h
 

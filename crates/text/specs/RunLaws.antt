@@ -1,6 +1,6 @@
 -- The turns of the loop over a run of lines of any kind. Laws.
 use Prim.Native.Nat.{ℕ, suc, ◌+◌, ◌≤◌, ◌<◌}
-use Rattle.std.specs.Prelude.{◌≡◌, Bool, ltb, get_or, None, Some}
+use Rattle.std.specs.Prelude.{◌≡◌, Bool, ltb, get_or, None, Option, Some}
 use Rattle.std.proofs.Math.Path.{refl, ap}
 use Rattle.std.proofs.Common.{sym, ◌∙◌, length-append, ltb-true, ltb-false, lt-ltb, le-ltb}
 use Rattle.std.proofs.Math.Bool.{true, false, cond}
@@ -69,16 +69,16 @@ module _ {word : List ℕ} {fs : List Field} {field bound : ℕ} {s : List ℕ} 
   pub run_most : (below ≤ count) × (count ≤ length s)
   run_most = (omega (arith, u.counted, u.all_below, below_most fs field bound u.xs), omega (arith, u.counted, u.upto.fit))
 
-  module _ {l : LineRead} (e : l ≡ line_read_at word fs s i) where
-    module _ {next : ℕ} (q : l.next ≡ Some next) where
-      x : SeenLine word fs s i l next
+  module _ {r : Option LineRead} (e : r ≡ line_read_at word fs s i) where
+    module _ {l : LineRead} (q : r ≡ Some l) where
+      x : SeenLine word fs s i l
       x = line_seen word fs s i e q
 
-      pub run_ahead : (i < next) × (next ≤ length s)
+      pub run_ahead : (i < l.next) × (l.next ≤ length s)
       run_ahead = let a = line_reaches (line (named word fs)) s i x.is in (a.1, a.2)
 
       pub run_more : {more : ℕ} → more ≡ below_more bound count below (get_or l.values field 0)
-          → RunUpTo word fs field bound s at (count + 1) more next
+          → RunUpTo word fs field bound s at (count + 1) more l.next
       run_more {more} g =
           record {
             xs = u.xs ++ (x.vs ∷ []);
@@ -91,7 +91,7 @@ module _ {word : List ℕ} {fs : List Field} {field bound : ℕ} {s : List ℕ} 
           }
 
     -- the line at i is none of the kind
-    pub run_done : l.next ≡ None → ◌≡◌ {A = Run} (record { count = count; below = below; next = i }) (run_at word fs field bound s at)
+    pub run_done : r ≡ None → ◌≡◌ {A = Run} (record { count = count; below = below; next = i }) (run_at word fs field bound s at)
     unfolding run_at
     run_done q =
         let d = read_up_done (line_none word fs s i e q) u.upto in

@@ -1,5 +1,4 @@
 -- `fields_from` meets its contract. The invariant: what is left to read decides as the whole did.
-use Prim.Native.Nat.{◌≤◌, ◌-◌}
 use mathlib.Core.Path.{◌≡◌}
 use mathlib.Core.List.{[]}
 use lib.ListN.{length}
@@ -9,7 +8,4 @@ use Rattle.text.proofs.lines.fields_from.Given as goal
 
 abbrev pub invariant-loop-i : goal.invariant-loop-i
 invariant-loop-i l =
-    (l.i ≤ length l.letters) × (length l.values ≡ most_fields) × Clean l.values l.i × (rest l.letters l.text l.p l.values l.i ≡ codes_from (fields_of l.letters) l.text l.at [])
-
-abbrev pub decreases-loop-i : goal.decreases-loop-i
-decreases-loop-i l = length l.letters - l.i
+    (length l.values ≡ most_fields) × Clean l.values l.i × (rest l.letters l.text l.p l.values l.i ≡ codes_from (fields_of l.letters) l.text l.at [])

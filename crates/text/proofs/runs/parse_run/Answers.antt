@@ -3,25 +3,22 @@ use native.Mathlib.Omega.{arith}
 use Rattle.text.specs.RunLaws.{run_start, run_most, run_ahead, run_more, run_done}
 use Rattle.text.proofs.runs.parse_run.Goals as goal
 
-pub loop-next-init : goal.loop-next-init
-loop-next-init c = run_start _ _ _ _ _ _
+pub loop-line-init : goal.loop-line-init
+loop-line-init c = run_start _ _ _ _ _ _
 
 pub returns-in_default : goal.returns-in_default
 returns-in_default c =
-    run_done c.loop-next.invariant c.parse_line-line.ensures c.in_default.is
+    run_done c.loop-line.invariant c.parse_line.ensures c.in_default.is
 
 pub one_more-below-requires : goal.one_more-below-requires
 one_more-below-requires c =
-    let u = run_most c.loop-next.invariant in
+    let u = run_most c.loop-line.invariant in
     (omega (arith, u), omega (arith, u))
 
-pub overflow_add-count : goal.overflow_add-count
-overflow_add-count c = omega (arith, run_most c.loop-next.invariant)
+pub loop-line-smaller : goal.loop-line-smaller
+loop-line-smaller c =
+    omega (arith, run_ahead c.loop-line.invariant c.parse_line.ensures c.in-Some.is)
 
-pub loop-next-smaller : goal.loop-next-smaller
-loop-next-smaller c =
-    omega (arith, run_ahead c.loop-next.invariant c.parse_line-line.ensures c.in-At.is)
-
-pub loop-next-preserved : goal.loop-next-preserved
-loop-next-preserved c =
-    run_more c.loop-next.invariant c.parse_line-line.ensures c.in-At.is c.one_more-below.ensures
+pub loop-line-preserved : goal.loop-line-preserved
+loop-line-preserved c =
+    run_more c.loop-line.invariant c.parse_line.ensures c.in-Some.is c.one_more-below.ensures
