@@ -12,25 +12,21 @@ pub record Led (leaders : List ℕ) (i : ℕ) : Type 0 where
 
 -- the first i states have their classes, and the classes so far, `count` of them, their first states
 pub record Numbered (leaders classes firsts : List ℕ) (i count : ℕ) : Type 0 where
+  pub fewer : count ≤ i
   pub counted : count ≡ lead_before (at leaders) i
   pub class_is : (s : ℕ) → s < i → at classes s ≡ lead_before (at leaders) (at leaders s)
   pub first_is : (s : ℕ) → s < i → at leaders s ≡ s → at firsts (lead_before (at leaders) s) ≡ s
 
 -- what numbering n states asks for
-pub record Numberable (n : ℕ) (leaders classes firsts : List ℕ) : Type 0 where
+pub record Numberable (n : ℕ) (leaders : List ℕ) : Type 0 where
   pub few : n ≤ max_states
   pub led : (i : ℕ) → i < n → Led leaders i
-  pub leaders_room : n ≤ length leaders
-  pub classes_room : n ≤ length classes
-  pub firsts_room : n ≤ length firsts
 
 -- what numbering one more asks for
 pub record CanNumber (leaders classes firsts : List ℕ) (i count : ℕ) : Type 0 where
   pub few : i < max_states
   pub led : Led leaders i
   pub leaders_room : i < length leaders
-  pub classes_room : i < length classes
-  pub firsts_room : i < length firsts
   pub so_far : Numbered leaders classes firsts i count
 
 -- an entry of the merged moves: of the first state of its class, the class of the state that it leads to, or `max_states` for a signal
@@ -43,6 +39,4 @@ pub record CanCarry (n : ℕ) (m classes firsts merged : List ℕ) (count : ℕ)
   pub fewer : count ≤ n
   pub first_below : (c : ℕ) → c < count → at firsts c < n
   pub moves_room : zone_count * n ≤ length m
-  pub classes_room : n ≤ length classes
-  pub firsts_room : n ≤ length firsts
   pub merged_room : zone_count * n ≤ length merged
