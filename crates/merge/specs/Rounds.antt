@@ -35,10 +35,10 @@ pub record HasRoom (n : ℕ) (m : List ℕ) : Type 0 where
   pub moves : zone_count * n ≤ length m
 
 -- what a round asks for: leaders that skip none
-pub record Refinable (n : ℕ) (m leaders : List ℕ) : Type 0 where
-  pub has_room : HasRoom n m
-  pub skips : (i : ℕ) → i < n → Skips n m leaders i
+pub record Refinable (m leaders : List ℕ) : Type 0 where
+  pub has_room : HasRoom (length leaders) m
+  pub skips : (i : ℕ) → i < length leaders → Skips (length leaders) m leaders i
 
 -- the next leaders of the first i states
-pub record NextLeaders (n : ℕ) (m leaders next : List ℕ) (i : ℕ) : Type 0 where
-  pub is : (s : ℕ) → s < i → at next s ≡ next_leader n m leaders s
+pub record NextLeaders (m leaders next : List ℕ) (i : ℕ) : Type 0 where
+  pub is : (s : ℕ) → s < i → at next s ≡ next_leader (length leaders) m leaders s

@@ -54,19 +54,21 @@ module _ {n : ℕ} {m l : List ℕ} {k : ℕ} (few : n ≤ max_states) (p : Hold
         ∙ (leader_lowest (given_automaton n m) (suc k) i).miss j (omega (arith, p.is i h, leader_later (given_automaton n m) k i));
   }
 
-  -- what the next round leaves
-  next_holds : (l' : List ℕ) → NextLeaders n m l l' n → HoldsLeaders n m l' (k + 1)
-  next_holds l' e = record { is = λ i h. rw (add-one k) (e.is i h ∙ next_leader_lem i) }
+  module _ (next : List ℕ) (e : (i : ℕ) → i < n → at next i ≡ next_leader n m l i) where
+    -- what the next round leaves
+    next_holds : HoldsLeaders n m next (k + 1)
+    next_holds = record { is = λ i h. rw (add-one k) (e i h ∙ next_leader_lem i) }
 
-  -- where no leader has moved, these are the leaders by as many points as there are states
-  none_moved : k ≤ n → NextLeaders n m l l n → HoldsLeaders n m l n
-  none_moved le still =
-      let same = same_settled (given_automaton n m) n (given_closed n m) k (λ i h. sym (next_leader_lem i) ∙ sym (still.is i h) ∙ p.is i h) in
-      let e : k + (n - k) ≡ n = omega arith in
-      record {
-        is = λ i h. p.is i h ∙ sym (settled_leader (given_automaton n m) n (given_closed n m) k (n - k) same i h)
-            ∙ ap (λ d. leader_for (given_automaton n m) d i) e;
-      }
+    -- where no leader has moved, these are the leaders by as many points as there are states
+    none_moved : k ≤ n → next ≡ l → HoldsLeaders n m l n
+    none_moved le still =
+        let same = same_settled (given_automaton n m) n (given_closed n m) k
+        (λ i h. sym (next_leader_lem i) ∙ sym (e i h) ∙ ap (λ x. at x i) still ∙ p.is i h) in
+        let all : k + (n - k) ≡ n = omega arith in
+        record {
+          is = λ i h. p.is i h ∙ sym (settled_leader (given_automaton n m) n (given_closed n m) k (n - k) same i h)
+              ∙ ap (λ d. leader_for (given_automaton n m) d i) all;
+        }
 
 -- ---- rounds
 
@@ -87,16 +89,16 @@ module _ {n : ℕ} {m : List ℕ} (l : List ℕ) {k : ℕ} (room : HasRoom n m) 
   long : length (take n l) ≡ n
   long = length-take-le n l fits
 
-  pub round_can : Refinable (length (take n l)) m (take n l)
-  round_can = rw long (record { has_room = room; skips = leaders_skip room.few p })
+  pub round_can : Refinable m (take n l)
+  round_can = record { has_room = rw long room; skips = rw long (leaders_skip room.few p) }
 
-  module _ (next : List ℕ) (r : NextLeaders (length (take n l)) m (take n l) next (length (take n l))) where
-    taken : NextLeaders n m (take n l) (take n next) n
-    taken = let r = rw long at r in record { is = λ s h. get_or-take n next s 0 h ∙ r.is s h }
+  module _ (next : List ℕ) (r : NextLeaders m (take n l) next (length (take n l))) where
+    taken : (i : ℕ) → i < n → at (take n next) i ≡ next_leader n m (take n l) i
+    taken i h = get_or-take n next i 0 h ∙ r.is i (omega (arith, long)) ∙ ap (λ x. next_leader x m (take n l) i) long
 
     -- the last round
     pub round_last : k ≤ n → take n next ≡ take n l → HoldsLeaders n m (take n l) n
-    round_last h e = none_moved room.few p h (rw e at taken)
+    round_last = none_moved room.few p (take n next) taken
 
     pub round_next : HoldsLeaders n m (take n next) (k + 1)
     round_next = next_holds room.few p (take n next) taken

@@ -18,8 +18,8 @@ pub(crate) struct Classes {
 impl Classes {
     // The class of each state, and the first state of each class.
     pub(crate) fn number(leaders: &[u16]) -> Classes
-        requires { Numberable (length leaders.now) leaders.now }
-        ensures { Numbered leaders.now result.of_states result.firsts (length leaders.now) result.count }
+        requires { Numberable leaders.now }
+        ensures { Numbered leaders.now result (length leaders.now) }
     {
         let mut classes = Classes {
             of_states: [0; RuleList::MAX_STATES],
@@ -34,8 +34,8 @@ impl Classes {
 
     // State i gets its class: a new one where it leads, else that of its leader.
     fn add(&mut self, leaders: &[u16], i: usize)
-        requires { CanNumber leaders.now self.old.of_states self.old.firsts i self.old.count }
-        ensures { Numbered leaders.now self.new.of_states self.new.firsts (i + 1) self.new.count }
+        requires { CanNumber leaders.now self.old i }
+        ensures { Numbered leaders.now self.new (i + 1) }
     {
         let leader = usize::from(leaders[i]);
         if leader == i {
@@ -49,9 +49,8 @@ impl Classes {
 
     // The moves of the classes: those of their first states, carried over to classes.
     pub(crate) fn carry(&self, moves: &[u16], n: usize, merged: &mut [u16])
-        requires { CanCarry n moves.now self.now.of_states self.now.firsts merged.old self.now.count }
-        ensures { merged.new
-            ≡ front (zone_count * self.now.count) (carried n moves.now self.now.of_states self.now.firsts) merged.old }
+        requires { CanCarry n moves.now self.now merged.old }
+        ensures { merged.new ≡ front (zone_count * self.now.count) (carried n moves.now self.now) merged.old }
     {
         for k in 0..ZONES * self.count {
             let first = usize::from(self.firsts[k / ZONES]);

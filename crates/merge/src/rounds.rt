@@ -40,8 +40,8 @@ fn next_leader(moves: &[u16], leaders: &[u16], i: usize) -> usize
 
 // One round: the next leader of each state.
 fn refine(moves: &[u16], leaders: &[u16]) -> [u16; RuleList::MAX_STATES]
-    requires { Refinable (length leaders.now) moves.now leaders.now }
-    ensures { NextLeaders (length leaders.now) moves.now leaders.now result (length leaders.now) }
+    requires { Refinable moves.now leaders.now }
+    ensures { NextLeaders moves.now leaders.now result (length leaders.now) }
 {
     let mut next = [0; RuleList::MAX_STATES];
     for i in 0..leaders.len() {

@@ -5,4 +5,4 @@ use Rattle.merge.specs.Rounds.{NextLeaders}
 use Rattle.merge.proofs.rounds.refine.Given as goal
 
 abbrev pub invariant-loop-i : goal.invariant-loop-i
-invariant-loop-i l = NextLeaders (length l.leaders) l.moves l.leaders l.next l.i × (length l.next ≡ max_states)
+invariant-loop-i l = NextLeaders l.moves l.leaders l.next l.i × (length l.next ≡ max_states)

@@ -11,5 +11,5 @@ loop-k-init c = front_none _ _
 pub loop-k-preserved : goal.loop-k-preserved
 loop-k-preserved c =
     let a = c.args in
-    front_more c.loop-k.k (carried a.n a.moves.now a.self.now.of_states a.self.now.firsts) a.merged.now c.loop-k.merged c.label_of.result (omega arith)
+    front_more c.loop-k.k (carried a.n a.moves.now a.self.now) a.merged.now c.loop-k.merged c.label_of.result (omega arith)
     c.loop-k.invariant (c.label_of.ensures ∙ label_taken a.n a.self.now.of_states (omega arith) _ ∙ rw c.from-first.ensures)

@@ -5,4 +5,4 @@ use Rattle.merge.specs.Numbering.{carried}
 use Rattle.merge.proofs.classes.Classes.carry.Given as goal
 
 abbrev pub invariant-loop-k : goal.invariant-loop-k
-invariant-loop-k l = l.merged ≡ front l.k (carried l.n l.moves l.self.of_states l.self.firsts) l.initial.merged
+invariant-loop-k l = l.merged ≡ front l.k (carried l.n l.moves l.self) l.initial.merged

@@ -3,4 +3,4 @@ use Rattle.merge.specs.Numbering.{Numbered}
 use Rattle.merge.proofs.classes.Classes.number.Given as goal
 
 abbrev pub invariant-loop-i : goal.invariant-loop-i
-invariant-loop-i l = Numbered l.leaders l.classes.of_states l.classes.firsts l.i l.classes.count
+invariant-loop-i l = Numbered l.leaders l.classes l.i
