@@ -1,7 +1,7 @@
 -- The rounds that find the first state of each class: what one looks at, and what its parts ask for. Working definitions.
-use Rattle.std.specs.Prelude.{ℕ, ◌+◌, ◌-◌, ◌*◌, ◌≤◌, ◌<◌, ◌≡◌, Bool, false, cond, List, eqb, ltb, length}
+use Rattle.std.specs.Prelude.{ℕ, ◌+◌, ◌*◌, ◌≤◌, ◌<◌, ◌≡◌, Bool, false, cond, List, eqb, ltb, length}
 use Rattle.rules.specs.Bounds.{zone_count, max_states}
-use Rattle.runlength.specs.Sum.{at, sum, front}
+use Rattle.runlength.specs.Sum.{at}
 use Rattle.runlength.specs.Lowest.{lowest}
 use Rattle.runlength.specs.Apart.{all_of}
 use Rattle.runlength.specs.Merged.{leader_for}
@@ -20,12 +20,6 @@ module _ (n : ℕ) (m leaders : List ℕ) where
   unfoldable pub next_leader : ℕ → ℕ
   next_leader i = lowest (λ j. agreeing j i) i
 
-  -- room for the n states, their moves and leaders
-  pub record HasRoom : Type 0 where
-    pub few : n ≤ max_states
-    pub moves : zone_count * n ≤ length m
-    pub room : n ≤ length leaders
-
   -- no state before its leader so far agrees with i
   pub record Skips (i : ℕ) : Type 0 where
     pub most : at leaders i ≤ i
@@ -35,16 +29,16 @@ module _ (n : ℕ) (m leaders : List ℕ) where
   pub record HoldsLeaders (k : ℕ) : Type 0 where
     pub is : (i : ℕ) → i < n → at leaders i ≡ leader_for (given_automaton n m) k i
 
--- what a round asks for: room, leaders that skip none, and room for the next leaders
-pub record Refinable (n : ℕ) (m leaders next : List ℕ) : Type 0 where
-  pub has_room : HasRoom n m leaders
-  pub next_room : n ≤ length next
-  pub skips : (i : ℕ) → i < n → Skips n m leaders i
-  pub later : (i : ℕ) → i < n → (at leaders i ≤ next_leader n m leaders i) × (next_leader n m leaders i ≤ i)
+-- not too many states, and their moves
+pub record HasRoom (n : ℕ) (m : List ℕ) : Type 0 where
+  pub few : n ≤ max_states
+  pub moves : zone_count * n ≤ length m
 
--- what a round has done with the first i states: their next leaders are written, the places beyond kept, and how far they have moved is summed
-pub record Refined (n : ℕ) (m leaders before next : List ℕ) (i moved : ℕ) : Type 0 where
-  pub written : next ≡ front i (next_leader n m leaders) before
-  pub distance : moved ≡ sum i (λ s. next_leader n m leaders s - at leaders s)
-  pub same_room : length next ≡ length before
-  pub most : moved ≤ max_states * i
+-- what a round asks for: leaders that skip none
+pub record Refinable (m leaders : List ℕ) : Type 0 where
+  pub has_room : HasRoom (length leaders) m
+  pub skips : (i : ℕ) → i < length leaders → Skips (length leaders) m leaders i
+
+-- the next leaders of the first i states
+pub record NextLeaders (m leaders next : List ℕ) (i : ℕ) : Type 0 where
+  pub is : (s : ℕ) → s < i → at next s ≡ next_leader (length leaders) m leaders s

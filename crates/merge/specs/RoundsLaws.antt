@@ -1,10 +1,10 @@
 -- A round looks one point further ahead; the first round that moves no leader is the last. Laws.
-use Rattle.std.specs.Prelude.{ℕ, suc, ◌+◌, ◌-◌, ◌*◌, ◌≤◌, ◌<◌, ◌≡◌, refl, Bool, true, false, cond, List, eqb, ltb, length}
-use Rattle.std.proofs.Common.{sym, ap, ◌∙◌, arith, add-one, ltb-true, eq-eqb, ne_eqb, eqb-true}
+use Rattle.std.specs.Prelude.{ℕ, suc, ◌+◌, ◌-◌, ◌*◌, ◌≤◌, ◌<◌, ◌≡◌, refl, Bool, true, false, cond, List, eqb, ltb, length, take, replicate}
+use Rattle.std.proofs.Common.{sym, ap, ◌∙◌, arith, add-one, ltb-true, eq-eqb, ne_eqb, eqb-true, get_or-take}
+use Rattle.std.proofs.Math.Seq.{length-take-le}
+use Rattle.std.proofs.lemmas.List.{get_or-replicate}
 use Rattle.rules.specs.Bounds.{zone_count, max_states}
-use Rattle.runlength.specs.Sum.{at, sum, front}
-use Rattle.runlength.specs.TabLaws.{front_at}
-use Rattle.runlength.specs.SumLaws.{sum_term}
+use Rattle.runlength.specs.Sum.{at}
 use Rattle.runlength.specs.Automaton.{quiet, signal}
 use Rattle.runlength.specs.Listed.{entry_move}
 use Rattle.runlength.proofs.LowestLaws.{lowest_cong, lowest_zero}
@@ -14,7 +14,7 @@ use Rattle.runlength.specs.Merged.{leader_for}
 use Rattle.runlength.proofs.ClassLaws.{leader_lowest, leader_most, same_leader, leader_same, leader_later, same_settled, settled_leader}
 use Rattle.merge.specs.Merge.{given_automaton}
 use Rattle.merge.specs.MergeLaws.{given_closed}
-use Rattle.merge.specs.Rounds.{label_of, agreeing, next_leader, HasRoom, Skips, HoldsLeaders, Refinable, Refined}
+use Rattle.merge.specs.Rounds.{label_of, agreeing, next_leader, HasRoom, Skips, HoldsLeaders, Refinable, NextLeaders}
 
 module _ {n : ℕ} {m l : List ℕ} {k : ℕ} (few : n ≤ max_states) (p : HoldsLeaders n m l k) where
   -- labels are equal exactly where k points behind the move do not tell the states apart
@@ -54,59 +54,51 @@ module _ {n : ℕ} {m l : List ℕ} {k : ℕ} (few : n ≤ max_states) (p : Hold
         ∙ (leader_lowest (given_automaton n m) (suc k) i).miss j (omega (arith, p.is i h, leader_later (given_automaton n m) k i));
   }
 
-  -- a leader never comes before the one so far
-  pub next_later : (i : ℕ) → i < n → at l i ≤ next_leader n m l i
-  next_later i h = omega (arith, next_leader_lem i, p.is i h, leader_later (given_automaton n m) k i)
+  module _ (next : List ℕ) (e : (i : ℕ) → i < n → at next i ≡ next_leader n m l i) where
+    -- what the next round leaves
+    next_holds : HoldsLeaders n m next (k + 1)
+    next_holds = record { is = λ i h. rw (add-one k) (e i h ∙ next_leader_lem i) }
 
-  pub next_most : (i : ℕ) → next_leader n m l i ≤ i
-  next_most i = omega (arith, next_leader_lem i, leader_most (given_automaton n m) (suc k) i)
-
-  -- what the next round leaves
-  next_holds : (l' : List ℕ) → ((i : ℕ) → i < n → at l' i ≡ next_leader n m l i) → HoldsLeaders n m l' (k + 1)
-  next_holds l' e = record { is = λ i h. rw (add-one k) (e i h ∙ next_leader_lem i) }
-
-  -- where no leader has moved, these are the leaders by as many points as there are states
-  pub moved_none : k ≤ n → sum n (λ i. next_leader n m l i - at l i) ≡ 0 → HoldsLeaders n m l n
-  moved_none le none =
-      let same = same_settled (given_automaton n m) n (given_closed n m) k
-      (λ i h. sym (next_leader_lem i)
-      ∙ omega (arith, next_later i h, sum_term n i (λ j. next_leader n m l j - at l j) h) ∙ p.is i h) in
-      let e : k + (n - k) ≡ n = omega arith in
-      record {
-        is = λ i h. p.is i h ∙ sym (settled_leader (given_automaton n m) n (given_closed n m) k (n - k) same i h)
-            ∙ ap (λ d. leader_for (given_automaton n m) d i) e;
-      }
+    -- where no leader has moved, these are the leaders by as many points as there are states
+    none_moved : k ≤ n → next ≡ l → HoldsLeaders n m l n
+    none_moved le still =
+        let same = same_settled (given_automaton n m) n (given_closed n m) k
+        (λ i h. sym (next_leader_lem i) ∙ sym (e i h) ∙ ap (λ x. at x i) still ∙ p.is i h) in
+        let all : k + (n - k) ≡ n = omega arith in
+        record {
+          is = λ i h. p.is i h ∙ sym (settled_leader (given_automaton n m) n (given_closed n m) k (n - k) same i h)
+              ∙ ap (λ d. leader_for (given_automaton n m) d i) all;
+        }
 
 -- ---- rounds
-
--- room for another list of leaders of the same length
-pub room_kept : {n : ℕ} {m l l' : List ℕ} → HasRoom n m l → length l' ≡ length l → HasRoom n m l'
-room_kept p e = record { few = p.few; moves = p.moves; room = omega (arith, p.room) }
 
 -- as many rounds as there are states
 pub held_all : {n : ℕ} {m l : List ℕ} {k : ℕ} → HoldsLeaders n m l k → k ≡ n → HoldsLeaders n m l n
 held_all {n} {m} {l} p e = record { is = λ i h. p.is i h ∙ ap (λ d. leader_for (given_automaton n m) d i) e }
 
-module _ {n : ℕ} {m l next : List ℕ} {k : ℕ} (room : HasRoom n m l) (p : HoldsLeaders n m l k) where
-  pub round_can : n ≤ length next → Refinable n m l next
-  round_can h = record {
-    has_room = room;
-    next_room = h;
-    skips = leaders_skip room.few p;
-    later = λ i g. (next_later room.few p i g, next_most room.few p i);
-  }
-
-  module _ {next' : List ℕ} {moved : ℕ} (r : Refined n m l next next' n moved) where
-    -- the last round
-    pub round_last : k ≤ n → moved ≡ 0 → HoldsLeaders n m l n
-    round_last h e = moved_none room.few p h (sym r.distance ∙ e)
-
-    -- the leaders of the next round, copied
-    pub round_next : {l' : List ℕ} → l' ≡ front n (at next') l → HoldsLeaders n m l' (k + 1)
-    round_next e = next_holds room.few p _ (λ i h.
-        ap (λ x. at x i) e ∙ front_at n (at next') l i h ∙ ap (λ x. at x i) r.written ∙ front_at n (next_leader n m l) next i h)
-
 -- by no point at all every state is led by the first
 pub none_held : {n : ℕ} {m l : List ℕ} → ((i : ℕ) → i < n → at l i ≡ 0) → HoldsLeaders n m l 0
 unfolding leader_for alike_for
 none_held e = record { is = λ i h. e i h ∙ sym (lowest_zero i) }
+
+-- the list of leaders is a slice of the first n places, at first 0
+pub none_taken : {n : ℕ} {m : List ℕ} → n ≤ max_states → HoldsLeaders n m (take n (replicate max_states 0)) 0
+none_taken {n} few = none_held (λ i h. get_or-take n (replicate max_states 0) i 0 h ∙ get_or-replicate {A = ℕ} max_states i 0 0 (omega arith))
+
+module _ {n : ℕ} {m : List ℕ} (l : List ℕ) {k : ℕ} (room : HasRoom n m) (fits : n ≤ length l) (p : HoldsLeaders n m (take n l) k) where
+  long : length (take n l) ≡ n
+  long = length-take-le n l fits
+
+  pub round_can : Refinable m (take n l)
+  round_can = record { has_room = rw long room; skips = rw long (leaders_skip room.few p) }
+
+  module _ (next : List ℕ) (r : NextLeaders m (take n l) next (length (take n l))) where
+    taken : (i : ℕ) → i < n → at (take n next) i ≡ next_leader n m (take n l) i
+    taken i h = get_or-take n next i 0 h ∙ r.is i (omega (arith, long)) ∙ ap (λ x. next_leader x m (take n l) i) long
+
+    -- the last round
+    pub round_last : k ≤ n → take n next ≡ take n l → HoldsLeaders n m (take n l) n
+    round_last = none_moved room.few p (take n next) taken
+
+    pub round_next : HoldsLeaders n m (take n next) (k + 1)
+    round_next = next_holds room.few p (take n next) taken

@@ -31,9 +31,12 @@ pub record Visitable (list : RuleList) (found entries : List ℕ) (n k : ℕ) : 
   pub below : k < zone_count * n
   pub given : CanBeGiven (active_rules list) (get_or found (k / zone_count) 0)
 
--- what one turn does: r states after it, `max_states + 1` for too many
+-- what one turn does: r states after it, with one entry more
 pub record Visited (a : Automaton ℕ) (found entries found' entries' : List ℕ) (n k r : ℕ) : Type 0 where
-  pub count : r ≡ length (next a (worklist (take n found) (take k entries))).found
-  pub most : r ≤ max_states + 1
+  pub most : r ≤ max_states
   pub least : n ≤ r
-  pub kept : r ≤ max_states → next a (worklist (take n found) (take k entries)) ≡ worklist (take r found') (take (k + 1) entries')
+  pub is : next a (worklist (take n found) (take k entries)) ≡ worklist (take r found') (take (k + 1) entries')
+
+-- or there are too many after it
+pub record Exceeds (a : Automaton ℕ) (found entries : List ℕ) (n k : ℕ) : Type 0 where
+  pub count : length (next a (worklist (take n found) (take k entries))).found ≡ max_states + 1

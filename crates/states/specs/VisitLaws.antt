@@ -1,6 +1,6 @@
 -- What `visit` answers, case by case, by the monitor's move.
-use Rattle.std.specs.Prelude.{ℕ, ◌+◌, ◌*◌, ◌/◌, ◌%◌, ◌<◌, ◌≤◌, ◌≡◌, List, get_or, take, set}
-use Rattle.std.proofs.Common.{ap}
+use Rattle.std.specs.Prelude.{ℕ, ◌+◌, ◌*◌, ◌/◌, ◌%◌, ◌<◌, ◌≤◌, ◌≡◌, Some, None, List, eqb, get_or, take, set, position}
+use Rattle.std.proofs.Common.{ap, arith}
 use Rattle.rules.specs.declared.RuleList.{RuleList}
 use Rattle.rules.specs.Bounds.{zone_count, max_states}
 use Rattle.rules.specs.Check.{active_rules}
@@ -9,8 +9,8 @@ use Rattle.window.specs.State.{move_of}
 use Rattle.runlength.specs.Index.{index_of}
 use Rattle.states.specs.Automata.{automaton_move, state_automaton}
 use Rattle.states.specs.AutomataLaws.{met_given}
-use Rattle.states.specs.Explore.{Explorable, Visitable, Visited}
-use Rattle.states.specs.ExploreLaws.{Exploring, explore_met, turn_signal, turn_known, turn_new, turn_over}
+use Rattle.states.specs.Explore.{Explorable, Visitable, Visited, Exceeds}
+use Rattle.states.specs.ExploreLaws.{index_found, index_missing, Exploring, explore_met, turn_signal, turn_known, turn_new, turn_over}
 
 module _ {list : RuleList} {f m : List ℕ} {n k : ℕ} (v : Visitable list f m n k) where
   pub visit_signal : (mask : ℕ) → move_of (active_rules list) (get_or f (k / zone_count) 0) (k % zone_count) ≡ Signal mask
@@ -18,18 +18,24 @@ module _ {list : RuleList} {f m : List ℕ} {n k : ℕ} (v : Visitable list f m 
   visit_signal mask e =
       turn_signal (state_automaton (active_rules list)) f m n k v.few v.below v.can.found_room v.can.entries_room (ap automaton_move e)
 
-  module _ {t j : ℕ} (e : move_of (active_rules list) (get_or f (k / zone_count) 0) (k % zone_count) ≡ Quiet t) (q : j ≡ index_of t (take n f)) where
-    pub visit_known : j < n → Visited (state_automaton (active_rules list)) f m f (set m k j) n k n
-    visit_known =
-        turn_known (state_automaton (active_rules list)) f m n k v.few v.below v.can.found_room v.can.entries_room t (ap automaton_move e) j q
+  module _ {t : ℕ} (e : move_of (active_rules list) (get_or f (k / zone_count) 0) (k % zone_count) ≡ Quiet t) where
+    pub visit_known : {j : ℕ} → Some j ≡ position (λ s. eqb s t) (take n f)
+        → Visited (state_automaton (active_rules list)) f m f (set m k j) n k n
+    visit_known {j} q =
+        turn_known (state_automaton (active_rules list)) f m n k v.few v.below v.can.found_room v.can.entries_room t (ap automaton_move e) j
+        (index_found t n f (omega (arith, v.few, v.can.found_room)) q)
 
-    pub visit_new : n ≤ j → n < max_states → Visited (state_automaton (active_rules list)) f m (set f n t) (set m k j) n k (n + 1)
-    visit_new =
-        turn_new (state_automaton (active_rules list)) f m n k v.few v.below v.can.found_room v.can.entries_room t (ap automaton_move e) j q
+    module _ (q : None ≡ position (λ s. eqb s t) (take n f)) where
+      missing : n ≡ index_of t (take n f)
+      missing = index_missing t n f (omega (arith, v.few, v.can.found_room)) q
 
-    pub visit_over : n ≤ j → max_states ≤ n → {f' m' : List ℕ} → Visited (state_automaton (active_rules list)) f m f' m' n k (max_states + 1)
-    visit_over l h {f'} {m'} =
-        turn_over (state_automaton (active_rules list)) f m n k v.few v.below v.can.found_room v.can.entries_room t (ap automaton_move e) j q l h f' m'
+      pub visit_new : n < max_states → Visited (state_automaton (active_rules list)) f m (set f n t) (set m k n) n k (n + 1)
+      visit_new =
+          turn_new (state_automaton (active_rules list)) f m n k v.few v.below v.can.found_room v.can.entries_room t (ap automaton_move e) missing
+
+      pub visit_over : max_states ≤ n → Exceeds (state_automaton (active_rules list)) f m n k
+      visit_over =
+          turn_over (state_automaton (active_rules list)) f m n k v.few v.below v.can.found_room v.can.entries_room t (ap automaton_move e) missing
 
 -- while moves are left, the next one can be looked at
 pub visit_can : {list : RuleList} {f₀ m₀ f m : List ℕ} {n k : ℕ} → Explorable list f₀ m₀ → Exploring (state_automaton (active_rules list)) f m n k → k < zone_count * n

@@ -3,7 +3,7 @@ use Rattle.std.specs.Prelude.{◌≡◌, refl, ℕ, zero, suc, ◌+◌, ◌-◌,
 use Rattle.std.proofs.Common.{sym, ap, ◌∙◌, ⊎_elim, arith, le-leb}
 use Rattle.std.proofs.lemmas.Bool.{lt-leb}
 use Rattle.window.specs.Window.{live_hit, live, hits_up_to}
-use Rattle.window.specs.WindowLaws.{le_or_lt, cond_le, live_goes, hits_le, live_le}
+use Rattle.window.specs.WindowLaws.{le_or_lt, cond_le, live_none, live_stays, live_goes, hits_le, live_le}
 
 -- where k is out of reach nothing is kept
 out_of_reach : (k c n w : ℕ) → c + 1 + n < k → live k c n w ≡ 0
@@ -16,6 +16,9 @@ out_of_reach k c (suc n) w h =
 -- where the newest hit is forgotten, so is every older one
 pub live_ends : (k c n w : ℕ) → 0 < n → c + w % 2 + n < k → live k c n w ≡ 0
 live_ends k c n w h q = omega (arith, live_goes k c n w h q, out_of_reach k (c + w % 2) (n - 1) (w / 2) (omega arith))
+
+-- the live hits, one age at a time
+pub ruleset live_steps = (live_none, live_stays, live_ends, live_le)
 
 -- where it is not, the newest bit stays
 bit_stays : (k c n b : ℕ) → b < 2 → k ≤ c + 1 + n → live_hit k (c + b) n b ≡ b

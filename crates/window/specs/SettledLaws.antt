@@ -3,12 +3,11 @@ use Rattle.std.specs.Prelude.{◌≡◌, refl, Bool, true, false, cond, List, �
 use Rattle.std.proofs.Common.{sym, ap, ◌∙◌, arith, pow_pos, le-leb, leb-false, eqb-true}
 use Rattle.std.proofs.Math.Nat.{pow-succ'}
 use Rattle.std.proofs.Math.Arith.{mod-mul}
-use Rattle.std.proofs.lemmas.Bool.{lt-leb}
+use Rattle.std.proofs.lemmas.Bool.{lt-leb, eqb-false}
 use Rattle.rules.specs.declared.Rule.{Rule}
 use Rattle.rules.specs.InBounds.{InBounds}
 use Rattle.rules.specs.TestLaws.{both}
 use Rattle.rules.specs.Check.{no_rule, rules_from}
-use Rattle.rules.specs.Mask.{bit}
 use Rattle.rules.specs.ZoneSet.{in_zone_set}
 use Rattle.window.specs.Window.{max_age, window_base, hits_up_to, live_hit, live, remembered, next_window, window_holds, valid_window}
 use Rattle.window.specs.WindowLaws.{cond_le}
@@ -84,14 +83,25 @@ hit_moves r w bounds t = go (r.m - 1) t.kept refl
 -- ---- the three ways that a point moves a settled window
 
 module _ (r : Rule) (w z : ℕ) (bounds : InBounds r) (t : Settled r w) where
-  pub hit_next : in_zone_set r.zones z ≡ 1 → next_window r w z ≡ (1 + 2 * w) % 2 ^ (r.m - 1)
-  hit_next e = ap (λ (h : ℕ). remembered r (h + 2 * w)) e ∙ hit_moves r w bounds t
+  module _ (hit : true ≡ eqb (in_zone_set r.zones z) 1) where
+    a_hit : in_zone_set r.zones z ≡ 1
+    a_hit = eqb-true (in_zone_set r.zones z) 1 (sym hit)
 
-  pub miss_holds : in_zone_set r.zones z ≡ 0 → bit (window_holds r w z) ≡ 0
-  miss_holds e = rw (e, lt-leb r.k (0 + hits_up_to max_age w) (omega (arith, t.few)))
+    pub hit_holds : leb r.k (1 + hits_up_to max_age w) ≡ window_holds r w z
+    hit_holds = rw a_hit
 
-  pub miss_next : in_zone_set r.zones z ≡ 0 → next_window r w z ≡ remembered r (2 * w)
-  miss_next e = let d : 0 + 2 * w ≡ 2 * w = omega arith in rw (e, d)
+    pub hit_next : (1 + 2 * w) % 2 ^ (r.m - 1) ≡ next_window r w z
+    hit_next = sym (ap (λ (h : ℕ). remembered r (h + 2 * w)) a_hit ∙ hit_moves r w bounds t)
 
-  pub miss_empty : in_zone_set r.zones z ≡ 0 → w ≡ 0 → next_window r w z ≡ 0
-  miss_empty e q = rw (e, q) (live_zero r.k 0 (r.m - 1))
+  module _ (miss : false ≡ eqb (in_zone_set r.zones z) 1) where
+    no_hit : in_zone_set r.zones z ≡ 0
+    no_hit = omega (arith, eqb-false (in_zone_set r.zones z) 1 (sym miss))
+
+    pub miss_holds : false ≡ window_holds r w z
+    miss_holds = rw (no_hit, lt-leb r.k (0 + hits_up_to max_age w) (omega (arith, t.few)))
+
+    pub miss_next : remembered r (2 * w) ≡ next_window r w z
+    miss_next = let d : 0 + 2 * w ≡ 2 * w = omega arith in rw (no_hit, d)
+
+    pub miss_empty : w ≡ 0 → 0 ≡ next_window r w z
+    miss_empty q = rw (no_hit, q) (sym (live_zero r.k 0 (r.m - 1)))

@@ -1,7 +1,9 @@
 -- Laws of the state, one rule at a time, for the rules from i up to n in the slots; bounds, and the move by a point.
-use Rattle.std.specs.Prelude.{◌≡◌, Bool, true, false, cond, List, ℕ, zero, suc, ◌+◌, ◌-◌, ◌*◌, ◌/◌, ◌%◌, ◌^◌, ◌≤◌, ◌<◌, get_or, eqb}
+use Rattle.std.specs.Prelude.{◌≡◌, refl, Bool, true, false, cond, List, ℕ, zero, suc, ◌+◌, ◌-◌, ◌*◌, ◌/◌, ◌%◌, ◌^◌, ◌≤◌, ◌<◌, get_or, take, eqb}
 use Rattle.std.proofs.Common.{sym, ap, ◌∙◌, lt_of_lt_of_le, arith, pow_mono, shr-shr}
 use Rattle.std.proofs.Math.Nat.{pow-le-pow_right, pow-succ'}
+use Rattle.std.proofs.lemmas.List.{get_or-take}
+use Rattle.std.specs.Int.{from_bool}
 use Rattle.rules.specs.declared.Rule.{Rule}
 use Rattle.rules.specs.Bounds.{max_rules}
 use Rattle.rules.specs.Check.{no_rule, rules_from}
@@ -39,6 +41,22 @@ module _ (slots : List Rule) (n i : ℕ) (h : i < n) where
   unfolding AllInBounds
   bounds_cons p = rw (rules_cons slots n i h) at p
 
+  -- the first of them, as an item of the slice of the first n
+  taken : get_or (take n slots) i no_rule ≡ here
+  taken = get_or-take n slots i no_rule h
+
+  pub bounds_item : AllInBounds (rules_from (n - i) i slots) → InBounds (get_or (take n slots) i no_rule)
+  bounds_item p = rw taken (bounds_cons p).0
+
+  module _ (count s : ℕ) where
+    pub valid_not : false ≡ valid_window count (get_or (take n slots) i no_rule) (s % window_base)
+        → false ≡ valid_state count (rules_from (n - i) i slots) s
+    valid_not e = sym (valid_cons count s ∙ rw (← taken, ← e))
+
+    pub valid_on : true ≡ valid_window count (get_or (take n slots) i no_rule) (s % window_base)
+        → valid_state count (rules_from (n - i) i slots) s ≡ valid_state count later (s / window_base)
+    valid_on e = valid_cons count s ∙ rw (← taken, ← e)
+
 module _ (slots : List Rule) (n i : ℕ) (h : n ≤ i) where
   pub valid_none : (count s : ℕ) → valid_state count (rules_from (n - i) i slots) s ≡ eqb s 0
   unfolding valid_state
@@ -64,9 +82,13 @@ bounds_from slots n (suc i) h p = let e : suc i ≡ i + 1 = omega arith in rw e 
 
 -- ---- bounds: a mask has a bit a rule, a window fits its digit, a state its number
 
-pub bit_le : (t : Bool) → bit t ≤ 1
+bit_le : (t : Bool) → bit t ≤ 1
 bit_le true = omega arith
 bit_le false = omega arith
+
+bit_from : (t : Bool) → from_bool t ≡ bit t
+bit_from true = refl
+bit_from false = refl
 
 mask_lt : (n i : ℕ) (slots : List Rule) (s z : ℕ) → state_mask (rules_from n i slots) s z < 2 ^ n
 unfolding mask_of holding rules_from
@@ -86,9 +108,9 @@ next_lt (suc n) i slots s z h =
     let e : window_base ^ suc n ≡ window_base * window_base ^ n = pow-succ' window_base n in
     omega (arith, next_lt n (i + 1) slots (s / window_base) z h.1, window_small (get_or slots i no_rule) (s % window_base) z h.0)
 
-next_small : (n i : ℕ) (slots : List Rule) (s z : ℕ) → n ≤ max_rules - 1 → AllInBounds (rules_from n i slots)
-    → next_state (rules_from n i slots) s z < window_base ^ (max_rules - 1)
-next_small n i slots s z h p = lt_of_lt_of_le (next_lt n i slots s z p) (pow-le-pow_right {n = window_base} (omega arith) {i = n} {j = max_rules - 1} h)
+next_small : (n i : ℕ) (slots : List Rule) (s z : ℕ) → n ≤ max_rules → AllInBounds (rules_from n i slots)
+    → next_state (rules_from n i slots) s z < window_base ^ max_rules
+next_small n i slots s z h p = lt_of_lt_of_le (next_lt n i slots s z p) (pow-le-pow_right {n = window_base} (omega arith) {i = n} {j = max_rules} h)
 
 -- ---- the rules moved by a point, from the last to the first
 
@@ -103,13 +125,11 @@ moved_none slots n s z =
     }
 
 module _ {slots : List Rule} {n s z i mask next : ℕ} (p : MovedFrom slots n s z i mask next) where
-  -- there is room for one rule more
-  pub moved_fits : n ≤ max_rules → AllInBounds (rules_from n 0 slots) → 0 < i
-      → (mask < 2 ^ max_rules) × (next < window_base ^ (max_rules - 1))
-  moved_fits few bounds some = (
+  -- a mask and a state have room for them
+  pub moved_fits : n ≤ max_rules → AllInBounds (rules_from n 0 slots) → (mask < 2 ^ max_rules) × (next < window_base ^ max_rules)
+  moved_fits few bounds = (
     rw p.mask_is (mask_small (n - i) i slots (windows_from i s) z (omega arith)),
-    rw p.next_is
-        (next_small (n - i) i slots (windows_from i s) z (omega arith) (bounds_from slots n i p.at_most bounds)),
+    rw p.next_is (next_small (n - i) i slots (windows_from i s) z (omega arith) (bounds_from slots n i p.at_most bounds)),
   )
 
   -- rule i - 1 before those from i on
@@ -117,31 +137,32 @@ module _ {slots : List Rule} {n s z i mask next : ℕ} (p : MovedFrom slots n s 
     abbrev rule : Rule
     rule = get_or slots (i - 1) no_rule
 
-    abbrev window : ℕ
-    window = windows_from (i - 1) s % window_base
-
     rest : (f : List Rule → ℕ → ℕ)
         → f (rules_from (n - (i - 1 + 1)) (i - 1 + 1) slots) (windows_from (i - 1) s / window_base)
         ≡ f (rules_from (n - i) i slots) (windows_from i s)
     rest f = let e : i - 1 + 1 ≡ i = omega arith in rw (windows_on (i - 1) s, e)
 
-    pub moved_more : {x y : ℕ} → x ≡ bit (window_holds rule window z) → y ≡ next_window rule window z
-        → MovedFrom slots n s z (i - 1) (x + 2 * mask) (y + window_base * next)
-    moved_more ex ey =
-        let h : i - 1 < n = omega arith in
-        record {
-          at_most = omega arith;
-          mask_is = omega (
-            arith,
-            mask_cons slots n (i - 1) h (windows_from (i - 1) s) z,
-            rest (λ (rs : List Rule) (t : ℕ). state_mask rs t z),
-          );
-          next_is = omega (
-            arith,
-            next_cons slots n (i - 1) h (windows_from (i - 1) s) z,
-            rest (λ (rs : List Rule) (t : ℕ). next_state rs t z),
-          );
-        }
+    -- its window w, whether it holds, and its next window
+    module _ {t : Bool} {w x y : ℕ} (w-is : w ≡ windows_from (i - 1) s % window_base) (x-is : x ≡ from_bool t)
+        (m : (t ≡ window_holds rule w z) × (y ≡ next_window rule w z)) where
+      pub moved_more : MovedFrom slots n s z (i - 1) (x + 2 * mask) (y + window_base * next)
+      moved_more =
+          let h : i - 1 < n = omega (arith, p.at_most) in
+          let bit-is : x ≡ bit (window_holds rule (windows_from (i - 1) s % window_base) z) = cc (bit_from t) in
+          let next-is : y ≡ next_window rule (windows_from (i - 1) s % window_base) z = cc in
+          record {
+            at_most = omega arith;
+            mask_is = omega (
+              arith,
+              mask_cons slots n (i - 1) h (windows_from (i - 1) s) z,
+              rest (λ (rs : List Rule) (t : ℕ). state_mask rs t z),
+            );
+            next_is = omega (
+              arith,
+              next_cons slots n (i - 1) h (windows_from (i - 1) s) z,
+              rest (λ (rs : List Rule) (t : ℕ). next_state rs t z),
+            );
+          }
 
   -- at the first rule all are
   pub moved_all : i ≡ 0 → (mask ≡ state_mask (rules_from n 0 slots) s z) × (next ≡ next_state (rules_from n 0 slots) s z)

@@ -8,6 +8,7 @@ ghost use Rattle.window.specs.State.{valid_state, move_of};
 ghost use Rattle.window.specs.Settled.{CanBeGiven};
 
 use crate::Move;
+use crate::window::{BASE, MAX_AGE, settled_move, valid_window};
 use rules::RuleList;
 
 // Whether the state can be given with these rules and this many points. For the crates of this repository.
@@ -15,16 +16,12 @@ pub fn valid_state(list: RuleList, count: u32, state: u64) -> bool
     requires { (list.len ≤ max_rules) × AllInBounds (active_rules list) }
     ensures { result ≡ valid_state count (active_rules list) state }
 {
-    let len = list.len;
-    let rules = list.rules;
     let mut windows = state;
-    let mut i: u32 = 0;
-    while i < len {
-        if !crate::window::valid_window(count, rules[i as usize], windows % crate::window::BASE) {
+    for rule in &list.rules[..list.len as usize] {
+        if !valid_window(count, *rule, windows % BASE) {
             return false;
         }
-        windows = windows / crate::window::BASE;
-        i += 1;
+        windows /= BASE;
     }
     windows == 0
 }
@@ -34,7 +31,7 @@ fn window_at(state: u64, i: u32) -> u64
     requires { i < max_rules }
     ensures { result ≡ state / 2 ^ (max_age * i) % window_base }
 {
-    (state >> (crate::window::MAX_AGE * i)) % crate::window::BASE
+    (state >> (MAX_AGE * i)) % BASE
 }
 
 // What a point does to a state that can be given, with accepted rules: every rule's window is moved once, from the last rule to the first. For
@@ -44,16 +41,12 @@ pub fn move_of(list: RuleList, state: u64, zone: u32) -> Move
     requires given { CanBeGiven (active_rules list) state }
     ensures { result ≡ move_of (active_rules list) state zone }
 {
-    let len = list.len;
-    let rules = list.rules;
     let mut mask: u32 = 0;
     let mut next: u64 = 0;
-    let mut i = len;
-    while i > 0 {
-        i -= 1;
-        let moved = crate::window::settled_move(rules[i as usize], window_at(state, i), zone);
-        mask = moved.holds + 2 * mask;
-        next = moved.next + crate::window::BASE * next;
+    for i in (0..list.len).rev() {
+        let moved = settled_move(list.rules[i as usize], window_at(state, i), zone);
+        mask = u32::from(moved.holds) + 2 * mask;
+        next = moved.next + BASE * next;
     }
     if mask == 0 {
         return Move::Quiet(next);

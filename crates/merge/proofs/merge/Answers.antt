@@ -1,29 +1,28 @@
 -- `merge` meets its contract: leaders by rounds, classes by leaders, moves by classes.
-use native.Mathlib.Omega.{arith}
-use Rattle.merge.specs.NumberingLaws.{rounds_of, number_of, carry_can, numbered_count, carried_moves}
+use Rattle.std.proofs.Common.{arith}
+use Rattle.std.proofs.Math.Seq.{length-take-le}
+use Rattle.merge.specs.NumberingLaws.{number_of, carry_can, numbered_count, carried_moves}
 use Rattle.merge.proofs.merge.Goals as goal
 
-pub find_leaders-requires : goal.find_leaders-requires
-find_leaders-requires c = rounds_of c.requires
-
-pub number-count-requires : goal.number-count-requires
-number-count-requires c =
-    let p = c.requires in
-    number_of p c.find_leaders.ensures.0
-    c.find_leaders.ensures.1
+pub number-classes-requires : goal.number-classes-requires
+number-classes-requires c =
+    let leaders = c.find_leaders-leaders in
+    number_of leaders.ensures c.requires.few (length-take-le c.args.n leaders.result (omega (arith, c.requires.few)))
 
 pub carry-requires : goal.carry-requires
 carry-requires c =
-    let p = c.requires in
-    carry_can c.find_leaders.ensures.0
-    c.number-count.ensures.numbered p.few p.moves
-    (omega (arith, p.few, c.number-count.ensures.classes_len_unchanged.0))
-    (omega (arith, p.few, c.number-count.ensures.classes_len_unchanged.1)) _ p.room
+    let leaders = c.find_leaders-leaders in
+    let long = length-take-le c.args.n leaders.result (omega (arith, c.requires.few)) in
+    carry_can leaders.ensures long c.number-classes.ensures _ c.requires
 
-pub returns : goal.returns
-returns c =
-    let h = c.find_leaders.ensures.0 in record {
-      value = numbered_count h c.number-count.ensures.numbered;
-      merged_after = carried_moves h c.number-count.ensures.numbered _ _
-          c.carry.ensures;
-    }
+pub returns-clause-value : goal.returns-clause-value
+returns-clause-value c =
+    let leaders = c.find_leaders-leaders in
+    let long = length-take-le c.args.n leaders.result (omega (arith, c.requires.few)) in
+    numbered_count leaders.ensures long c.number-classes.ensures
+
+pub returns-clause-merged_after : goal.returns-clause-merged_after
+returns-clause-merged_after c =
+    let leaders = c.find_leaders-leaders in
+    let long = length-take-le c.args.n leaders.result (omega (arith, c.requires.few)) in
+    carried_moves leaders.ensures long c.number-classes.ensures _ _ c.carry.ensures

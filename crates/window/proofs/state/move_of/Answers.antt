@@ -1,13 +1,7 @@
 -- `state::move_of` meets its contract. The invariant: the rules passed are moved, from the last on; then by the mask, which is 0 or not.
-use Prim.Native.Nat.{ℕ, ◌-◌}
-use mathlib.Core.Path.{sym, ap, ◌∙◌}
-use native.Mathlib.Omega.{arith}
-use lib.ListN.{get_or}
-use Rattle.rules.specs.Check.{no_rule, active_rules}
-use Rattle.rules.specs.Mask.{bit}
-use Rattle.window.specs.Window.{next_window, window_holds}
-use Rattle.window.specs.StateLaws.{bounds_cons, bounds_from, bit_le, window_small}
-use Rattle.window.specs.StateLaws.{moved_none, moved_fits, moved_more, moved_all}
+use Rattle.std.proofs.Common.{ap, sym, ◌-◌, ◌∙◌, arith}
+use Rattle.rules.specs.Check.{active_rules}
+use Rattle.window.specs.StateLaws.{bounds_cons, bounds_from, moved_none, moved_fits, moved_more, moved_all}
 use Rattle.window.specs.MoveLaws.{move_quiet, move_signal}
 use Rattle.window.specs.declared.Move.TheVariants.{Quiet, Signal}
 use Rattle.window.specs.SettledLaws.{settled_at}
@@ -28,40 +22,30 @@ settled_move-moved-requires c =
 
 pub overflow_mul-mask : goal.overflow_mul-mask
 overflow_mul-mask c =
-    let fits = moved_fits c.loop-i.invariant c.requires.len_le_max_rules.0 c.requires.len_le_max_rules.1 (omega arith) in
+    let p = c.requires.len_le_max_rules in
+    let fits = moved_fits (moved_more c.loop-i.invariant (omega arith) c.window_at.ensures c.from.ensures c.settled_move-moved.ensures) p.0 p.1 in
     omega arith
 
 pub overflow_add-mask : goal.overflow_add-mask
 overflow_add-mask c =
-    let a = c.args in
-    let fits = moved_fits c.loop-i.invariant c.requires.len_le_max_rules.0 c.requires.len_le_max_rules.1 (omega arith) in
-    let r = get_or a.list.rules (c.loop-i.i - 1) no_rule in
-    omega (arith, c.settled_move-moved.ensures.0, bit_le (window_holds r c.window_at.result a.zone))
+    let p = c.requires.len_le_max_rules in
+    let fits = moved_fits (moved_more c.loop-i.invariant (omega arith) c.window_at.ensures c.from.ensures c.settled_move-moved.ensures) p.0 p.1 in
+    omega arith
 
 pub overflow_mul-next : goal.overflow_mul-next
 overflow_mul-next c =
-    let fits = moved_fits c.loop-i.invariant c.requires.len_le_max_rules.0 c.requires.len_le_max_rules.1 (omega arith) in
+    let p = c.requires.len_le_max_rules in
+    let fits = moved_fits (moved_more c.loop-i.invariant (omega arith) c.window_at.ensures c.from.ensures c.settled_move-moved.ensures) p.0 p.1 in
     omega arith
 
 pub overflow_add-next : goal.overflow_add-next
 overflow_add-next c =
-    let a = c.args in
-    let l = a.list in
-    let i = c.loop-i.i - 1 in
-    let fits = moved_fits c.loop-i.invariant c.requires.len_le_max_rules.0 c.requires.len_le_max_rules.1 (omega arith) in
-    let bounds = bounds_from l.rules l.len i (omega arith) c.requires.len_le_max_rules.1 in
-    let rule = (bounds_cons l.rules l.len i (omega arith) bounds).0 in
-    let r = get_or l.rules i no_rule in
-    omega (arith, c.settled_move-moved.ensures.1, window_small r c.window_at.result a.zone rule)
+    let p = c.requires.len_le_max_rules in
+    let fits = moved_fits (moved_more c.loop-i.invariant (omega arith) c.window_at.ensures c.from.ensures c.settled_move-moved.ensures) p.0 p.1 in
+    omega arith
 
 pub loop-i-preserved : goal.loop-i-preserved
-loop-i-preserved c =
-    let a = c.args in
-    let r = get_or a.list.rules (c.loop-i.i - 1) no_rule in
-    let w = c.window_at.ensures in
-    moved_more c.loop-i.invariant (omega arith)
-    (c.settled_move-moved.ensures.0 ∙ ap (λ (w : ℕ). bit (window_holds r w a.zone)) w)
-    (c.settled_move-moved.ensures.1 ∙ ap (λ (w : ℕ). next_window r w a.zone) w)
+loop-i-preserved c = moved_more c.loop-i.invariant (omega arith) c.window_at.ensures c.from.ensures c.settled_move-moved.ensures
 
 pub returns-then-mask-eq0 : goal.returns-then-mask-eq0
 returns-then-mask-eq0 c =

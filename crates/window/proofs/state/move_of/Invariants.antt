@@ -3,7 +3,4 @@ use Rattle.window.specs.Settled.{MovedFrom}
 use Rattle.window.proofs.state.move_of.Given as goal
 
 abbrev pub invariant-loop-i : goal.invariant-loop-i
-invariant-loop-i l = MovedFrom l.rules l.len l.state l.zone l.i l.mask l.next
-
-abbrev pub decreases-loop-i : goal.decreases-loop-i
-decreases-loop-i l = l.i
+invariant-loop-i l = MovedFrom l.fn.list.rules l.fn.list.len l.state l.zone l.i l.mask l.next
