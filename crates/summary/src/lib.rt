@@ -27,15 +27,17 @@ pub struct Summary {
 }
 
 // The error bound of the mean cut at the horizon: states × horizon × (horizon - 1) / 2.
+#[tactic(auto, using(crate::specs::ErrorBoundLaws::product_most, crate::specs::ErrorBoundLaws::products_most))]
 fn mean_error_bound(state_count: u32, horizon: u32) -> u64
     requires { (state_count ≤ max_states) × (min_horizon ≤ horizon) × (horizon ≤ max_horizon) }
     ensures { result ≡ error_bound_of state_count horizon }
 {
-    let h = horizon as u64;
-    state_count as u64 * h * (h - 1) / 2
+    let h = u64::from(horizon);
+    u64::from(state_count) * h * (h - 1) / 2
 }
 
 // The summary of exactly the chances of a table, and its figures.
+#[tactic(auto, unfolding(crate::specs::Summary::summary_by))]
 fn summarize(pmf: &[u64], figures: TableFigures, horizon: u32) -> Summary
     requires { Summarizable pmf.now figures.state_count horizon }
     ensures { result ≡ summary_by pmf.now figures horizon }
