@@ -5,7 +5,7 @@ ghost use Rattle.write.specs.Wrote.{Wrote};
 ghost use Rattle.write.specs.Field.{short_field};
 ghost use Rattle.weights_report.specs.WeightLine.{weight_line, weights_room};
 
-use rules::{ZoneWeights, weight_array};
+use rules::ZoneWeights;
 use write::{put_byte, put_bytes, put_field};
 
 // `weights`, a field of 32 bits for each zone, LF.
@@ -32,7 +32,7 @@ pub fn put_weights(out: &mut [u8], at: usize, w: ZoneWeights) -> usize
     ensures wrote { Wrote out.old at out.new result (weight_line w) }
     ensures upper_bound { result ≤ at + weights_room }
 {
-    let weights = weight_array(w);
+    let weights: [u32; rules::ZONES] = w.into();
     let a = put_bytes(out, at, b"weights");
     let b = put_fields(out, a, &weights);
     put_byte(out, b, b'\n')

@@ -16,7 +16,7 @@ same_fields e u = rw (← e) u
 pub returns : goal.returns
 unfolding weight_line
 returns c =
-    let weights = c.weight_array-weights.ensures in record {
+    let weights = c.into-weights.ensures in record {
       wrote = then (then c.put_bytes-a.ensures (same_fields weights c.put_fields-b.ensures.wrote)) c.put_byte.ensures;
       upper_bound = omega (arith, ap length weights, c.put_fields-b.ensures.upper_bound, c.put_bytes-a.ensures.end, c.put_byte.ensures.end);
     }

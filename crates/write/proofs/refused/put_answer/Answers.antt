@@ -2,9 +2,9 @@
 use Rattle.write.proofs.PrintedLaws.{stands_written, stands_refused}
 use Rattle.write.proofs.refused.put_answer.Goals as goal
 
-pub returns-in-Written : goal.returns-in-Written
-returns-in-Written c = stands_written _ c.in-Written.is
+pub returns-in-Ok : goal.returns-in-Ok
+returns-in-Ok c = stands_written _ c.in-Ok.is
 
-pub returns-in-Refused : goal.returns-in-Refused
-returns-in-Refused c =
-    stands_refused c.in-Refused.is c.put_refused.ensures.wrote
+pub returns-in-Err : goal.returns-in-Err
+returns-in-Err c =
+    stands_refused c.in-Err.is c.put_refused.ensures.wrote
