@@ -1,21 +1,24 @@
 // The line of a refused text, and all that a program writes: what its report wrote, or that line.
 ghost use Rattle.std.specs.Prelude.{◌+◌, ◌≤◌, length};
-ghost use Rattle.write.specs.Wrote.{Wrote};
+ghost use Rattle.write.specs.Writes.{HasRoom, AtMost, Writes};
 ghost use Rattle.write.specs.Refused.{refused_line, refused_room};
 ghost use Rattle.write.specs.AnswerStands.{AnswerStands};
 
-use crate::{ReportAnswer, put_byte, put_field, put_named};
+use crate::{ReportAnswer, Writer};
 use rules::Refusal;
 
-// The line `refused,number,place`.
-pub fn put_refused(out: &mut [u8], at: usize, refusal: Refusal) -> usize
-    requires { at + refused_room ≤ length out.old }
-    ensures wrote { Wrote out.old at out.new result (refused_line refusal.number refusal.place) }
-    ensures upper_bound { result ≤ at + refused_room }
-{
-    let a = put_named(out, at, b"refused", refusal.number as u64);
-    let b = put_field(out, a, refusal.place as u64);
-    put_byte(out, b, b'\n')
+impl Writer<'_> {
+    // The line `refused,number,place`.
+    #[tactic(auto, using(crate::proofs::FieldLaws::field_short))]
+    pub fn refused(&mut self, refusal: Refusal)
+        requires { HasRoom self.old refused_room }
+        ensures wrote { Writes self.old (refused_line refusal.number refusal.place) self.new }
+        ensures upper_bound { AtMost self.old refused_room self.new }
+    {
+        self.named(b"refused", refusal.number as u64);
+        self.field(refusal.place as u64);
+        self.byte(b'\n');
+    }
 }
 
 // A report's answer: its lines stand in the buffer already, a refusal's line is written to its start.
@@ -25,6 +28,10 @@ pub fn put_answer(out: &mut [u8], answer: ReportAnswer) -> usize
 {
     match answer {
         ReportAnswer::Written(n) => n,
-        ReportAnswer::Refused(refusal) => put_refused(out, 0, refusal),
+        ReportAnswer::Refused(refusal) => {
+            let mut w = Writer::new(out, 0);
+            w.refused(refusal);
+            w.end()
+        }
     }
 }
