@@ -1,9 +1,8 @@
 // The monitor program's lines: one for each point, and one for each node.
-ghost use Rattle.std.specs.Prelude.{◌+◌, ◌≤◌, length};
-ghost use Rattle.write.specs.Wrote.{Wrote};
+ghost use Rattle.write.specs.Writes.{HasRoom, AtMost, Writes};
 ghost use Rattle.monitor_lines.specs.MonitorLines.{point_bytes, point_room, total_line, total_room};
 
-use write::{put_byte, put_field, put_named};
+use write::Writer;
 
 // `signal`, four fields of 32 bits, LF: the longest line of a point.
 pub const POINT_ROOM: usize = 6 + 4 * write::SHORT_FIELD + 1;
@@ -28,10 +27,11 @@ pub enum PointLine {
 }
 
 // The line `quiet,node,n,period` or `signal,node,n,mask,period`.
-pub fn put_point(out: &mut [u8], at: usize, line: PointLine) -> usize
-    requires { at + point_room ≤ length out.old }
-    ensures wrote { Wrote out.old at out.new result (point_bytes line) }
-    ensures upper_bound { result ≤ at + point_room }
+#[tactic(auto, using(write::proofs::FieldLaws::field_short))]
+pub fn put_point(w: &mut Writer, line: PointLine)
+    requires { HasRoom w.old point_room }
+    ensures wrote { Writes w.old (point_bytes line) w.new }
+    ensures upper_bound { AtMost w.old point_room w.new }
 {
     match line {
         PointLine::Quiet {
@@ -39,10 +39,9 @@ pub fn put_point(out: &mut [u8], at: usize, line: PointLine) -> usize
             count,
             period,
         } => {
-            let a = put_named(out, at, b"quiet", node as u64);
-            let b = put_field(out, a, count as u64);
-            let e = put_field(out, b, period as u64);
-            put_byte(out, e, b'\n')
+            w.named(b"quiet", node as u64);
+            w.field(count as u64);
+            w.field(period as u64);
         }
         PointLine::Signal {
             node,
@@ -50,13 +49,13 @@ pub fn put_point(out: &mut [u8], at: usize, line: PointLine) -> usize
             mask,
             period,
         } => {
-            let a = put_named(out, at, b"signal", node as u64);
-            let b = put_field(out, a, count as u64);
-            let e = put_field(out, b, mask as u64);
-            let f = put_field(out, e, period as u64);
-            put_byte(out, f, b'\n')
+            w.named(b"signal", node as u64);
+            w.field(count as u64);
+            w.field(mask as u64);
+            w.field(period as u64);
         }
     }
+    w.byte(b'\n');
 }
 
 // What a node's last line says: the node, its points and its signals.
@@ -68,13 +67,14 @@ pub struct TotalLine {
 }
 
 // The line `total,node,points,signals`.
-pub fn put_total(out: &mut [u8], at: usize, line: TotalLine) -> usize
-    requires { at + total_room ≤ length out.old }
-    ensures wrote { Wrote out.old at out.new result (total_line line.node line.points line.signals) }
-    ensures upper_bound { result ≤ at + total_room }
+#[tactic(auto, using(write::proofs::FieldLaws::field_short))]
+pub fn put_total(w: &mut Writer, line: TotalLine)
+    requires { HasRoom w.old total_room }
+    ensures wrote { Writes w.old (total_line line.node line.points line.signals) w.new }
+    ensures upper_bound { AtMost w.old total_room w.new }
 {
-    let a = put_named(out, at, b"total", line.node as u64);
-    let b = put_field(out, a, line.points as u64);
-    let e = put_field(out, b, line.signals as u64);
-    put_byte(out, e, b'\n')
+    w.named(b"total", line.node as u64);
+    w.field(line.points as u64);
+    w.field(line.signals as u64);
+    w.byte(b'\n');
 }

@@ -4,7 +4,7 @@ ghost use Rattle.rules.specs.Bounds.{zone_count, max_rules, max_number};
 ghost use Rattle.rules.specs.Check.{active_rules};
 ghost use Rattle.rules.specs.InBounds.{AllInBounds};
 ghost use Rattle.window.specs.State.{valid_state};
-ghost use Rattle.write.specs.Wrote.{Wrote};
+ghost use Rattle.write.specs.Writes.{HasRoom, AtMost, Writes};
 ghost use Rattle.monitor_text.specs.Readings.{node_count};
 ghost use Rattle.monitor_lines.specs.MonitorLines.{total_room};
 ghost use Rattle.monitor_report.specs.Points.{total_lines};
@@ -14,6 +14,7 @@ use monitor::{Monitor, Taken};
 use monitor_lines::{PointLine, TotalLine, put_total};
 use monitor_text::NODES;
 use rules::RuleList;
+use write::Writer;
 
 // What is kept of a node: its monitor, and how many points and signals it had.
 #[derive(Clone, Copy)]
@@ -82,35 +83,30 @@ pub(crate) fn chart_point(k: u32, node: Node, list: RuleList, zone: u32) -> Node
 }
 
 // The total of node number k: no line where it has no points.
-fn put_node(out: &mut [u8], at: usize, k: u32, node: Node) -> usize
-    requires { at + total_room ≤ length out.old }
-    ensures wrote { Wrote out.old at out.new result (total_lines (total_of k node)) }
-    ensures upper_bound { result ≤ at + total_room }
+fn put_node(w: &mut Writer, k: u32, node: Node)
+    requires { HasRoom w.old total_room }
+    ensures wrote { Writes w.old (total_lines (total_of k node)) w.new }
+    ensures upper_bound { AtMost w.old total_room w.new }
 {
     if node.points == 0 {
-        return at;
+        return;
     }
     put_total(
-        out,
-        at,
+        w,
         TotalLine {
             node: k,
             points: node.points,
             signals: node.signals,
         },
-    )
+    );
 }
 
 // The totals of the nodes, in their order.
-pub(crate) fn put_totals(out: &mut [u8], at: usize, nodes: [Node; NODES as usize]) -> usize
-    requires { at + total_room * node_count ≤ length out.old }
-    ensures { Wrote out.old at out.new result (total_lines (totals_of nodes node_count)) }
+pub(crate) fn put_totals(w: &mut Writer, nodes: [Node; NODES as usize])
+    requires { HasRoom w.old (total_room * node_count) }
+    ensures { Writes w.old (total_lines (totals_of nodes node_count)) w.new }
 {
-    let mut end = at;
-    let mut k: u32 = 0;
-    while k < NODES {
-        end = put_node(out, end, k, nodes[k as usize]);
-        k += 1;
+    for (k, node) in nodes.iter().enumerate() {
+        put_node(w, k as u32, *node);
     }
-    end
 }

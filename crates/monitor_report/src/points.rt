@@ -19,6 +19,7 @@ use monitor_lines::put_point;
 use monitor_text::NODES;
 use rules::RuleList;
 use text::line_at;
+use write::Writer;
 
 // The lines of the points from `at` on, and the nodes' totals, from the buffer's start.
 pub(crate) fn put_points(
@@ -38,17 +39,18 @@ pub(crate) fn put_points(
 {
     let mut nodes = [fresh_node(); NODES as usize];
     let mut i = at;
-    let mut end = 0;
+    let mut w = Writer::new(out, 0);
     loop {
         let Some(read) = line_at(text, i, b"point", b"ns") else {
-            return put_totals(out, end, nodes);
+            put_totals(&mut w, nodes);
+            return w.end();
         };
         let node = read.values[0];
         let zone = chart.zone_at(signed_value(read.values[1]));
         let point = chart_point(node, nodes[node as usize], list, zone);
         let line = point.line;
         let next_node = point.next;
-        end = put_point(out, end, line);
+        put_point(&mut w, line);
         nodes[node as usize] = next_node;
         i = read.next;
     }

@@ -1,13 +1,14 @@
--- Laws of the table's rows: none, one more, and all of them.
-use Rattle.std.specs.Prelude.{ℕ, zero, suc, ◌+◌, ◌≤◌, ◌<◌, ◌≡◌, refl, List, length, get_or}
-use Rattle.std.proofs.Common.{arith, add-one}
+-- Laws of the table's rows: none, one more, and all of them; and of the numbers that are left for them.
+use Rattle.std.specs.Prelude.{ℕ, zero, suc, ◌+◌, ◌-◌, ◌≤◌, ◌<◌, ◌≡◌, refl, List, ◌∷◌, length, get_or, take, drop}
+use Rattle.std.proofs.Common.{ap, ◌∙◌, arith, add-one, length-drop, length-take-le}
+use Rattle.std.proofs.lemmas.List.{drop_more, get_or-take}
 use Rattle.write.specs.Wrote.{Wrote}
 use Rattle.write.specs.PartsWritten.{joined}
 use Rattle.write.specs.PartsWrittenLaws.{parts_start, parts_more, parts_done}
 use Rattle.runlength.specs.Chain.{cdf_of}
 use Rattle.runlength.proofs.CdfLaws.{cdf_zero, cdf_more, cdf_upto}
 use Rattle.table_lines.specs.RowLine.{row_line, row_room, table_rows}
-use Rattle.table_lines.specs.RowsWritten.{row_after, RowsWritten}
+use Rattle.table_lines.specs.RowsWritten.{row_after, RowsWritten, LeftOf}
 
 rows_joined : (n : ℕ) (pmf survival : List ℕ) → joined n (row_after pmf survival) ≡ table_rows n pmf survival
 unfolding joined table_rows
@@ -32,3 +33,26 @@ module _ {a : List ℕ} {at h : ℕ} {pmf survival : List ℕ} where
 
   pub rowed_done : {b : List ℕ} {e cdf n : ℕ} → RowsWritten a at h pmf survival b e cdf n → h ≤ n → Wrote a at b e (table_rows h pmf survival)
   rowed_done i l = rw (rows_joined h pmf survival) at (parts_done i.parts l)
+
+-- ---- the numbers that are left: one more, and none
+
+left_length : {xs rest : List ℕ} {h n : ℕ} → LeftOf xs h n rest → length rest ≡ h - n
+left_length {xs} {rest} {h} {n} o = ap length o.left ∙ length-drop n (take h xs) ∙ ap (λ (k : ℕ). k - n) (length-take-le h xs o.within)
+
+pub left_below : {xs rest more : List ℕ} {h n x : ℕ} → LeftOf xs h n rest → rest ≡ x ∷ more → n < h
+left_below o e = omega (arith, left_length o, ap length e)
+
+left_split : {xs rest more : List ℕ} {h n x : ℕ} → LeftOf xs h n rest → rest ≡ x ∷ more → x ∷ more ≡ get_or xs n 0 ∷ drop (n + 1) (take h xs)
+left_split {xs} {rest} {more} {h} {n} o e =
+    let b = left_below o e in
+    let d = drop_more (take h xs) n 0 (omega (arith, length-take-le h xs o.within)) in
+    cc (e, o.left, d, get_or-take h xs n 0 b)
+
+pub left_first : {xs rest more : List ℕ} {h n x : ℕ} → LeftOf xs h n rest → rest ≡ x ∷ more → x ≡ get_or xs n 0
+left_first o e = cc (left_split o e)
+
+pub left_more : {xs rest more : List ℕ} {h n x : ℕ} → LeftOf xs h n rest → rest ≡ x ∷ more → LeftOf xs h (n + 1) more
+left_more o e = record { within = o.within; left = cc (left_split o e) }
+
+pub left_none : {xs rest : List ℕ} {h n : ℕ} → LeftOf xs h n rest → length rest ≡ 0 → h ≤ n
+left_none o e = omega (arith, left_length o)

@@ -1,4 +1,4 @@
-// The table program's lines, written into a lent buffer at an offset.
+// The table program's lines, written into a lent buffer.
 // For the crates of this repository, which see to the room: hence each `requires`.
 #![tactic(auto)]
 

@@ -1,72 +1,71 @@
 // The table program's lines, but for the brackets.
 ghost use Rattle.std.specs.Prelude.{◌+◌, ◌*◌, ◌≤◌, length};
-ghost use Rattle.write.specs.Wrote.{Wrote};
+ghost use Rattle.write.specs.Writes.{HasRoom, AtMost, Writes};
 ghost use Rattle.runlength.specs.Scale.{units_per_one};
 ghost use Rattle.runlength.specs.Chain.{cdf_of};
 ghost use Rattle.table_lines.specs.RowLine.{standings_line, standings_room, header_line, header_room, row_line, row_room, table_rows};
 ghost use Rattle.table_lines.specs.RowLine.{arl_line, arl_room};
 
-use write::{put_byte, put_bytes, put_field, put_named, put_number};
+use write::Writer;
 
 // The line `standings,N`.
-pub fn put_standings(out: &mut [u8], at: usize, state_count: u32) -> usize
-    requires { at + standings_room ≤ length out.old }
-    ensures wrote { Wrote out.old at out.new result (standings_line state_count) }
-    ensures upper_bound { result ≤ at + standings_room }
+#[tactic(auto, using(write::proofs::FieldLaws::field_short))]
+pub fn put_standings(w: &mut Writer, state_count: u32)
+    requires { HasRoom w.old standings_room }
+    ensures wrote { Writes w.old (standings_line state_count) w.new }
+    ensures upper_bound { AtMost w.old standings_room w.new }
 {
-    let e = put_named(out, at, b"standings", state_count as u64);
-    put_byte(out, e, b'\n')
+    w.named(b"standings", state_count as u64);
+    w.byte(b'\n');
 }
 
 // The line `n,chance,by,left`.
-pub(crate) fn put_header(out: &mut [u8], at: usize) -> usize
-    requires { at + header_room ≤ length out.old }
-    ensures wrote { Wrote out.old at out.new result header_line }
-    ensures upper_bound { result ≤ at + header_room }
+pub(crate) fn put_header(w: &mut Writer)
+    requires { HasRoom w.old header_room }
+    ensures wrote { Writes w.old header_line w.new }
+    ensures upper_bound { AtMost w.old header_room w.new }
 {
-    put_bytes(out, at, b"n,chance,by,left\n")
+    w.bytes(b"n,chance,by,left\n");
 }
 
 // A row's four numbers.
-fn put_row(out: &mut [u8], at: usize, n: u64, pmf: u64, cdf: u64, survival: u64) -> usize
-    requires { at + row_room ≤ length out.old }
-    ensures wrote { Wrote out.old at out.new result (row_line n pmf cdf survival) }
-    ensures upper_bound { result ≤ at + row_room }
+#[tactic(auto, using(write::proofs::FieldLaws::field_room_lem), unfolding(write::specs::Field::field))]
+fn put_row(w: &mut Writer, n: u64, pmf: u64, cdf: u64, survival: u64)
+    requires { HasRoom w.old row_room }
+    ensures wrote { Writes w.old (row_line n pmf cdf survival) w.new }
+    ensures upper_bound { AtMost w.old row_room w.new }
 {
-    let a = put_number(out, at, n);
-    let b = put_field(out, a, pmf);
-    let c = put_field(out, b, cdf);
-    let d = put_field(out, c, survival);
-    put_byte(out, d, b'\n')
+    w.number(n);
+    w.field(pmf);
+    w.field(cdf);
+    w.field(survival);
+    w.byte(b'\n');
 }
 
 // The rows 1 to h, by the chances and what is left; the sum of the chances is at most probability one.
-pub(crate) fn put_rows(out: &mut [u8], at: usize, h: usize, pmf: &[u64], survival: &[u64]) -> usize
-    requires h_in_bounds { at + row_room * h ≤ length out.old }
+pub(crate) fn put_rows(w: &mut Writer, h: usize, pmf: &[u64], survival: &[u64])
+    requires h_in_bounds { HasRoom w.old (row_room * h) }
     requires h_in_bounds_2 { (h ≤ length pmf.now) × (h ≤ length survival.now) }
     requires h_bound { cdf_of pmf.now h ≤ units_per_one }
-    ensures wrote { Wrote out.old at out.new result (table_rows h pmf.now survival.now) }
-    ensures upper_bound { result ≤ at + row_room * h }
+    ensures wrote { Writes w.old (table_rows h pmf.now survival.now) w.new }
+    ensures upper_bound { AtMost w.old (row_room * h) w.new }
 {
-    let mut e = at;
-    let mut cdf: u64 = 0;
-    let mut i = 0;
-    while i < h {
-        cdf += pmf[i];
-        e = put_row(out, e, (i + 1) as u64, pmf[i], cdf, survival[i]);
-        i += 1;
+    let mut cdf = 0;
+    for (i, (&chance, &left)) in pmf[..h].iter().zip(&survival[..h]).enumerate() {
+        cdf += chance;
+        put_row(w, i as u64 + 1, chance, cdf, left);
     }
-    e
 }
 
 // The line `arl,whole,fraction,shortfall`: the mean, and its error bound.
-pub(crate) fn put_arl(out: &mut [u8], at: usize, whole: u64, fraction: u64, error: u64) -> usize
-    requires { at + arl_room ≤ length out.old }
-    ensures wrote { Wrote out.old at out.new result (arl_line whole fraction error) }
-    ensures upper_bound { result ≤ at + arl_room }
+#[tactic(auto, using(write::proofs::FieldLaws::field_room_lem))]
+pub(crate) fn put_arl(w: &mut Writer, whole: u64, fraction: u64, error: u64)
+    requires { HasRoom w.old arl_room }
+    ensures wrote { Writes w.old (arl_line whole fraction error) w.new }
+    ensures upper_bound { AtMost w.old arl_room w.new }
 {
-    let a = put_named(out, at, b"arl", whole);
-    let b = put_field(out, a, fraction);
-    let c = put_field(out, b, error);
-    put_byte(out, c, b'\n')
+    w.named(b"arl", whole);
+    w.field(fraction);
+    w.field(error);
+    w.byte(b'\n');
 }

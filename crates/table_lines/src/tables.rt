@@ -9,6 +9,7 @@ ghost use Rattle.table_lines.specs.TableLines.{table_bytes, table_room};
 use crate::percents::put_percents;
 use crate::row_lines::{put_arl, put_header, put_rows, put_standings};
 use summary::Summary;
+use write::Writer;
 
 // The table program's output, from the buffer's start: a table's summary, and its rows up to the horizon.
 pub fn put_table(
@@ -27,15 +28,16 @@ pub fn put_table(
     ensures upper_bound { result ≤ table_room }
 {
     let figures = summary.figures;
-    let a = put_standings(out, 0, figures.state_count);
-    let b = put_header(out, a);
-    let c = put_rows(out, b, horizon, pmf, survival);
-    let d = put_arl(
-        out,
-        c,
+    let mut w = Writer::new(out, 0);
+    put_standings(&mut w, figures.state_count);
+    put_header(&mut w);
+    put_rows(&mut w, horizon, pmf, survival);
+    put_arl(
+        &mut w,
         figures.mean_whole,
         figures.mean_fraction,
         summary.error_bound,
     );
-    put_percents(out, d, summary)
+    put_percents(&mut w, summary);
+    w.end()
 }

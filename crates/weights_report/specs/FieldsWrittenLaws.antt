@@ -26,7 +26,7 @@ module _ {a : List ℕ} {at : ℕ} {ns : List ℕ} where
 
   pub fielded_more : {b c : List ℕ} {e i r : ℕ} → FieldsWritten a at ns b e i → i < length ns → Fits w32 (get_or ns i 0)
       → Wrote b e c r (field (get_or ns i 0)) → FieldsWritten a at ns c r (i + 1)
-  fielded_more f l h w = record { parts = parts_more f.parts l w (omega (arith, field_short h)) }
+  fielded_more f l h w = record { parts = parts_more f.parts l w (omega (arith, field_short _ h.fits)) }
 
   pub fielded_done : {b : List ℕ} {e i : ℕ} → FieldsWritten a at ns b e i → length ns ≤ i → Wrote a at b e (fields ns)
   fielded_done f l =

@@ -1,3 +1,2 @@
-mod Tenth
 pub mod FieldLaws
 pub mod PrintedLaws

@@ -1,8 +1,7 @@
 -- What stands in the buffer once a report's answer is written behind nothing. Working definition.
 use Rattle.std.specs.Prelude.{ℕ, ◌≡◌, List, Err, Ok, Result}
 use Rattle.rules.specs.declared.refusal.Refusal.{Refusal}
-use Rattle.rules.specs.Refusal.{number_of}
-use Rattle.rules.specs.Refusal.{place_of}
+use Rattle.rules.specs.Refusal.{number_of, place_of}
 use Rattle.write.specs.Wrote.{Wrote}
 use Rattle.write.specs.Refused.{refused_line}
 

@@ -1,6 +1,8 @@
 -- What is written into a lent buffer, and what a program prints: definitions and laws.
 pub mod Wrote
 pub mod WroteLaws
+pub mod Writes
+pub mod WritesLaws
 pub mod PartsWritten
 pub mod PartsWrittenLaws
 pub mod NumberRoom

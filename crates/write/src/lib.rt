@@ -1,14 +1,12 @@
-// Writing into a lent buffer at an offset: bytes, numbers in decimal, fields, the line of a refusal.
+// A writer into a lent buffer: bytes, numbers in decimal, fields, the line of a refusal.
 // For the crates of this repository, which see to the room: hence each `requires`.
 #![tactic(auto)]
 
-mod field;
-mod put;
 mod refused;
+mod writer;
 
-pub use field::{put_field, put_named};
-pub use put::{put_byte, put_bytes, put_number};
-pub use refused::{put_answer, put_refused};
+pub use refused::put_answer;
+pub use writer::Writer;
 
 // The most digits of a number of 64 bits, and of one of 32 bits.
 pub const NUMBER_ROOM: usize = 20;

@@ -1,27 +1,20 @@
--- `weights_report::put_fields` meets its contract. Its invariant: the fields of the first i numbers are written.
+-- `put_fields` meets its contract. Its invariant: the fields of the numbers so far are written.
+use mathlib.Core.Path.{refl, ◌∙◌}
 use native.Mathlib.Omega.{arith}
-use Rattle.write.proofs.FieldLaws.{field_short}
+use Rattle.write.specs.WritesLaws.{writes}
 use Rattle.weights_report.specs.FieldsWrittenLaws.{fielded_start, fielded_more, fielded_done}
 use Rattle.weights_report.proofs.weight_line.put_fields.Goals as goal
 
-pub loop-i-init : goal.loop-i-init
-loop-i-init c = fielded_start (omega arith)
+pub loop-n-init : goal.loop-n-init
+loop-n-init c = record { same_buffer = refl; fields = fielded_start (omega arith) }
 
-pub overflow_cast-numbers : goal.overflow_cast-numbers
-overflow_cast-numbers c = omega (arith, c.shared_slice_known-in-loop-i-1.given c.loop-i.i)
+pub loop-n-preserved : goal.loop-n-preserved
+loop-n-preserved c =
+    let l = c.loop-n.invariant in record {
+      same_buffer = c.field.ensures.same_buffer ∙ l.same_buffer;
+      fields = fielded_more l.fields c.loop-n-test.true (c.type_inv.numbers c.loop-n.n-index) c.field.ensures.wrote;
+    }
 
-pub put_field-e-requires : goal.put_field-e-requires
-put_field-e-requires c =
-    let l = c.loop-i in
-    omega (arith, field_short (c.shared_slice_known-in-loop-i-1.given l.i))
-
-pub loop-i-preserved : goal.loop-i-preserved
-loop-i-preserved c =
-    let l = c.loop-i in
-    fielded_more l.invariant c.loop-i-test.true (c.shared_slice_known-in-loop-i-1.given l.i) c.put_field-e.ensures
-
-pub returns : goal.returns
-returns c = record {
-  wrote = search fielded_done;
-  upper_bound = omega arith;
-}
+pub returns-clause-wrote : goal.returns-clause-wrote
+returns-clause-wrote c =
+    let l = c.loop-n.invariant in writes l.same_buffer (fielded_done l.fields c.loop-n-test.false)

@@ -1,11 +1,10 @@
--- `weights_report::put_fields` meets its contract. Its invariant: the fields of the first i numbers are written.
-use Prim.Native.Nat.{◌-◌}
-use lib.ListN.{length}
+-- `put_fields` meets its contract. Its invariant: the fields of the numbers so far are written.
+use mathlib.Core.Path.{◌≡◌}
 use Rattle.weights_report.specs.FieldsWrittenLaws.{FieldsWritten}
 use Rattle.weights_report.proofs.weight_line.put_fields.Given as goal
 
-abbrev pub invariant-loop-i : goal.invariant-loop-i
-invariant-loop-i l = FieldsWritten l.initial.out l.at l.numbers l.out l.e l.i
-
-abbrev pub decreases-loop-i : goal.decreases-loop-i
-decreases-loop-i l = length l.numbers - l.i
+abbrev pub invariant-loop-n : goal.invariant-loop-n
+invariant-loop-n l = record {
+  same_buffer : l.w.out.ghost_name ≡ l.initial.w.out.ghost_name;
+  fields : FieldsWritten l.initial.w.out.now l.initial.w.at l.numbers l.w.out.now l.w.at l.n-index;
+}

@@ -1,5 +1,0 @@
--- The number falls at each call.
-use Rattle.write.proofs.put.+put_number.Given as goal
-
-abbrev pub decreases-put_number : goal.decreases-put_number
-decreases-put_number l = l.n
