@@ -19,7 +19,8 @@ all_below : (f : ℕ → Bool) (n : ℕ) → list_all (λ t. t) (map f (range_wi
 unfolding all_of
 all_below f zero = refl
 all_below f (suc n) =
-    ap (λ k. list_all (λ t. t) (map f (range_with_len 0 k))) (sym (add-one n)) ∙ ap (list_all (λ t. t)) (map-range_with_len_more f 0 n n (omega arith))
+    ap (λ k. list_all (λ t. t) (map f (range_with_len 0 k))) (sym (add-one n))
+    ∙ ap (list_all (λ t. t)) (map-range_with_len_more f 0 n n (omega arith))
     ∙ list_all-append (λ t. t) (map f (range_with_len 0 n)) (f n ∷ [])
     ∙ rw (all_below f n, and-true (f n))
 

@@ -25,7 +25,8 @@ use Rattle.merge.specs.Numbering.{Led, Numbered, Numberable, CanNumber, carried,
 module _ {l : List ℕ} {c : Classes} {i : ℕ} (p : CanNumber l c i) (classes_room : length c.of_states ≡ max_states)
     (firsts_room : length c.firsts ≡ max_states) where
   -- the first of a class
-  pub number_first : at l i ≡ i → Numbered l (record { of_states = set c.of_states i c.count; firsts = set c.firsts c.count i; count = c.count + 1 }) (i + 1)
+  pub number_first : at l i ≡ i
+      → Numbered l (record { of_states = set c.of_states i c.count; firsts = set c.firsts c.count i; count = c.count + 1 }) (i + 1)
   number_first e = record {
     fewer = omega (arith, p.so_far.fewer);
     counted = omega (arith, p.so_far.counted, lead_one (at l) i e);

@@ -83,9 +83,11 @@ none_held e = record { is = λ i h. e i h ∙ sym (lowest_zero i) }
 
 -- the list of leaders is a slice of the first n places, at first 0
 pub none_taken : {n : ℕ} {m : List ℕ} → n ≤ max_states → HoldsLeaders n m (take n (replicate max_states 0)) 0
-none_taken {n} few = none_held (λ i h. get_or-take n (replicate max_states 0) i 0 h ∙ get_or-replicate {A = ℕ} max_states i 0 0 (omega arith))
+none_taken {n} few =
+    none_held (λ i h. get_or-take n (replicate max_states 0) i 0 h ∙ get_or-replicate {A = ℕ} max_states i 0 0 (omega arith))
 
-module _ {n : ℕ} {m : List ℕ} (l : List ℕ) {k : ℕ} (room : HasRoom n m) (fits : n ≤ length l) (p : HoldsLeaders n m (take n l) k) where
+module _ {n : ℕ} {m : List ℕ} (l : List ℕ) {k : ℕ} (room : HasRoom n m) (fits : n ≤ length l)
+    (p : HoldsLeaders n m (take n l) k) where
   long : length (take n l) ≡ n
   long = length-take-le n l fits
 

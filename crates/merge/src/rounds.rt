@@ -16,7 +16,7 @@ pub(crate) fn label_of(labels: &[u16], entry: u16) -> u16
 
 // Whether every zone leads from both states to the same leader so far, or to a signal.
 fn agree(moves: &[u16], leaders: &[u16], i: usize, j: usize) -> bool
-    requires { HasRoom (length leaders.now) moves.now × (i < length leaders.now) × (j < length leaders.now) }
+    requires { let n = length leaders.now in HasRoom n moves.now × (i < n) × (j < n) }
     ensures { result ≡ agreeing (length leaders.now) moves.now leaders.now i j }
 {
     (0..ZONES).all(|z| {
@@ -26,7 +26,7 @@ fn agree(moves: &[u16], leaders: &[u16], i: usize, j: usize) -> bool
 
 // The first state that agrees with i: none before its leader so far does.
 fn next_leader(moves: &[u16], leaders: &[u16], i: usize) -> usize
-    requires { HasRoom (length leaders.now) moves.now × (i < length leaders.now) × Skips (length leaders.now) moves.now leaders.now i }
+    requires { let n = length leaders.now in HasRoom n moves.now × (i < n) × Skips n moves.now leaders.now i }
     ensures value { result ≡ next_leader (length leaders.now) moves.now leaders.now i }
     ensures most { result ≤ i }
 {
@@ -50,7 +50,7 @@ fn refine(moves: &[u16], leaders: &[u16]) -> [u16; RuleList::MAX_STATES]
     next
 }
 
-// The first state of each of the n states' classes, to begin with those by no point: all 0.
+// The first state of the class of each of the n states. To begin with all are 0, the leaders by no point.
 pub(crate) fn find_leaders(moves: &[u16], n: usize) -> [u16; RuleList::MAX_STATES]
     requires { HasRoom n moves.now }
     ensures { HoldsLeaders n moves.now (take n result) n }

@@ -40,8 +40,10 @@ none_below p long e = go (ltb p long) refl e
 module _ (t n : ℕ) (f : List ℕ) (fits : n ≤ length f) where
   pub index_found : {j : ℕ} → Some j ≡ position (λ s. eqb s t) (take n f) → (j ≡ index_of t (take n f)) × (j < n)
   index_found {j} e =
-      let p = position-Some (λ s. eqb s t) (take n f) j 0 (sym e) in
-      (sym (index_first t (take n f) ∙ position_or_len_is (λ s. eqb s t) (take n f) j 0 (omega arith) p.2 (λ _. p.1)), omega (arith, p.0, length-take-le n f fits))
+      let p = position-Some (λ s. eqb s t) (take n f) j 0 (sym e) in (
+        sym (index_first t (take n f) ∙ position_or_len_is (λ s. eqb s t) (take n f) j 0 (omega arith) p.2 (λ _. p.1)),
+        omega (arith, p.0, length-take-le n f fits),
+      )
 
   pub index_missing : None ≡ position (λ s. eqb s t) (take n f) → n ≡ index_of t (take n f)
   index_missing e = omega (

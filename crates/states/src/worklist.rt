@@ -18,7 +18,8 @@ fn index_of(found: &[u64], state: u64) -> Option<usize>
 fn visit(list: RuleList, found: &mut [u64], moves: &mut [u16], n: usize, k: usize) -> Option<usize>
     requires { Visitable list found.old moves.old n k }
     ensures { let a = state_automaton (active_rules list) in
-        MatchOption result (Exceeds a found.old moves.old n k) (Visited a found.old moves.old found.new moves.new n k) }
+        MatchOption result (Exceeds a found.old moves.old n k)
+        (Visited a found.old moves.old found.new moves.new n k) }
 {
     let state = found[k / ZONES];
     let zone = (k % ZONES) as u32;

@@ -12,12 +12,13 @@ refine-next-requires c = round_can c.loop.leaders c.requires (omega (arith, c.re
 
 pub returns-then-eq : goal.returns-then-eq
 returns-then-eq c =
-    round_last c.loop.leaders c.requires (omega (arith, c.requires.few)) c.loop.invariant c.refine-next.result c.refine-next.ensures (omega arith)
-    (same_text _ _ c.if-eq.ensures)
+    round_last c.loop.leaders c.requires (omega (arith, c.requires.few)) c.loop.invariant
+    c.refine-next.result c.refine-next.ensures (omega arith) (same_text _ _ c.if-eq.ensures)
 
 pub loop-preserved : goal.loop-preserved
 loop-preserved c =
-    round_next c.loop.leaders c.requires (omega (arith, c.requires.few)) c.loop.invariant c.refine-next.result c.refine-next.ensures
+    round_next c.loop.leaders c.requires (omega (arith, c.requires.few)) c.loop.invariant
+    c.refine-next.result c.refine-next.ensures
 
 pub returns : goal.returns
 returns c = held_all c.loop.invariant (omega arith)

@@ -11,7 +11,8 @@ valid_window-requires c =
 pub returns-then-not-valid_window : goal.returns-then-not-valid_window
 returns-then-not-valid_window c =
     let l = c.args.list in
-    valid_not l.rules l.len c.loop-rule.rule-index (omega arith) c.args.count c.loop-rule.windows c.if-not-valid_window.ensures ∙ sym c.loop-rule.invariant.1
+    valid_not l.rules l.len c.loop-rule.rule-index (omega arith) c.args.count c.loop-rule.windows c.if-not-valid_window.ensures
+    ∙ sym c.loop-rule.invariant.1
 
 pub loop-rule-preserved : goal.loop-rule-preserved
 loop-rule-preserved c =

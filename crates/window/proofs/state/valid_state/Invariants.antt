@@ -7,5 +7,5 @@ use Rattle.window.proofs.state.valid_state.Given as goal
 
 abbrev pub invariant-loop-rule : goal.invariant-loop-rule
 invariant-loop-rule l =
-    AllInBounds (rules_from (l.fn.list.len - l.rule-index) l.rule-index l.fn.list.rules)
-    × (valid_state l.count (active_rules l.fn.list) l.state ≡ valid_state l.count (rules_from (l.fn.list.len - l.rule-index) l.rule-index l.fn.list.rules) l.windows)
+    let left = rules_from (l.fn.list.len - l.rule-index) l.rule-index l.fn.list.rules in
+    AllInBounds left × (valid_state l.count (active_rules l.fn.list) l.state ≡ valid_state l.count left l.windows)
