@@ -1,6 +1,5 @@
 -- `points::put_points` meets its contract. The invariant: the points charted and written, each node as its own points left it, and what is left to read.
 use mathlib.Core.Path.{◌≡◌, refl, ◌∙◌}
-use mir.Val.{to_z, of_z}
 use mir.Syntax.{w32}
 use native.Mathlib.Omega.{arith}
 use borrow.Author.Rules.{rules}
@@ -11,8 +10,8 @@ use Rattle.monitor.specs.ZonesLaws.{zone_given}
 use Rattle.monitor_report.specs.PointsLaws.{slots_fresh, written_start, node_below, node_ready, written_more, written_done}
 use Rattle.monitor_report.proofs.points.put_points.Goals as goal
 
-pub loop-next-init : goal.loop-next-init
-loop-next-init c =
+pub loop-read-init : goal.loop-read-init
+loop-read-init c =
     let fresh = slots_fresh node_count c.fresh_node-nodes.result c.fresh_node-nodes.ensures in record {
       same_buffer = refl;
       bench = rw c.new-w.ensures.same_place (written_start c.requires.on_bench _ fresh refl);
@@ -20,42 +19,40 @@ loop-next-init c =
 
 pub returns-in_default : goal.returns-in_default
 returns-in_default c =
-    let u = c.loop-next.invariant.bench in
-    let whole = written_done u (no_point_seen _ _ c.line_at-read.ensures c.in_default.is) _ c.put_totals.ensures.wrote in search rules
+    let u = c.loop-read.invariant.bench in
+    let whole = written_done u (no_point_seen _ _ c.line_at.ensures c.in_default.is) _ c.put_totals.ensures.wrote in search rules
 
 pub bounds-nodes-node : goal.bounds-nodes-node
 bounds-nodes-node c =
-    let u = c.loop-next.invariant.bench in
-    node_below u _ _ _ (point_seen _ _ c.line_at-read.ensures c.in-At.is)
+    let u = c.loop-read.invariant.bench in
+    node_below u _ _ _ (point_seen _ _ c.line_at.ensures c.in-Some.is)
 
 pub chart_point-point-requires-clause-count_lt_max_number : goal.chart_point-point-requires-clause-count_lt_max_number
 chart_point-point-requires-clause-count_lt_max_number c =
-    let u = c.loop-next.invariant.bench in
-    let below = node_below u _ _ _ (point_seen _ _ c.line_at-read.ensures c.in-At.is) in
+    let u = c.loop-read.invariant.bench in
+    let below = node_below u _ _ _ (point_seen _ _ c.line_at.ensures c.in-Some.is) in
     (node_ready u c.requires.len_le_max_rules.1 c.requires.text_len_bound _ below).0
 
 pub chart_point-point-requires-clause-state_value : goal.chart_point-point-requires-clause-state_value
 chart_point-point-requires-clause-state_value c =
-    let u = c.loop-next.invariant.bench in
-    let below = node_below u _ _ _ (point_seen _ _ c.line_at-read.ensures c.in-At.is) in
+    let u = c.loop-read.invariant.bench in
+    let below = node_below u _ _ _ (point_seen _ _ c.line_at.ensures c.in-Some.is) in
     (node_ready u c.requires.len_le_max_rules.1 c.requires.text_len_bound _ below).1
 
-pub bounds-nodes-node-in-loop-next : goal.bounds-nodes-node-in-loop-next
-bounds-nodes-node-in-loop-next c =
-    let u = c.loop-next.invariant.bench in
-    node_below u _ _ _ (point_seen _ _ c.line_at-read.ensures c.in-At.is)
+pub bounds-nodes-node-in-loop-read : goal.bounds-nodes-node-in-loop-read
+bounds-nodes-node-in-loop-read c =
+    let u = c.loop-read.invariant.bench in
+    node_below u _ _ _ (point_seen _ _ c.line_at.ensures c.in-Some.is)
 
-pub loop-next-smaller : goal.loop-next-smaller
-loop-next-smaller c = omega (arith, seen_ahead _ _ _ _ _ (point_seen _ _ c.line_at-read.ensures c.in-At.is))
+pub loop-read-smaller : goal.loop-read-smaller
+loop-read-smaller c = omega (arith, seen_ahead _ _ _ _ _ (point_seen _ _ c.line_at.ensures c.in-Some.is))
 
-pub loop-next-preserved : goal.loop-next-preserved
-loop-next-preserved c =
-    let u = c.loop-next.invariant.bench in
-    let found = point_seen _ _ c.line_at-read.ensures c.in-At.is in
-    let chart = c.args.chart in
-    let centre : to_z w32 (of_z w32 chart.centre) ≡ chart.centre = to_z-of_z {w = w32} {z = chart.centre} (record { sfits = c.struct_told-1.given.0.1 }) in
-    let zone = c.zone_at-zone.ensures ∙ zone_given (to_z-of_z {w = w32} (search rules) ∙ c.signed_value.ensures) centre chart.sigma in
+pub loop-read-preserved : goal.loop-read-preserved
+loop-read-preserved c =
+    let u = c.loop-read.invariant.bench in
+    let found = point_seen _ _ c.line_at.ensures c.in-Some.is in
+    let zone = c.zone_at-zone.ensures ∙ zone_given (to_z-of_z {w = w32} (search rules) ∙ c.signed_value.ensures) refl c.args.chart.sigma in
     let p = c.put_point.ensures in record {
-      same_buffer = p.wrote.same_buffer ∙ c.loop-next.invariant.same_buffer;
+      same_buffer = p.wrote.same_buffer ∙ c.loop-read.invariant.same_buffer;
       bench = written_more u _ _ _ found _ zone _ c.chart_point-point.ensures _ p.wrote.wrote p.upper_bound;
     }
