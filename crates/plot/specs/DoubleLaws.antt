@@ -112,7 +112,12 @@ pub exactly : (r : Float) (n k : ℕ) → n < 2 ^ 53 → k ≤ 1074 → r ≡ ro
 unfolding nearest_to
 exactly r n k h K e = record { nearest = e; exact = subst (λ (x : Float). HasValue x false n (2 ^ k)) (sym e) (exact n k h K) }
 
--- a whole number of at most 53 binary digits, cast
+-- a whole number, cast, is the double nearest to it
+pub cast_nearest : (n : ℕ) → of_int binary64 (pos n) ≡ nearest_to n 1
+unfolding of_int nearest_to
+cast_nearest n = refl
+
+-- and of at most 53 binary digits it is exact
 pub whole_at : (n : ℕ) → n < 2 ^ 53 → HasValue (of_int binary64 (pos n)) false n 1
 unfolding of_int nearest_to
 whole_at n h = exact n 0 h (zero-le)

@@ -1,11 +1,10 @@
 -- TO BELIEVE: the item of a percentile's bracket, and the interquartile range of two. Definitions.
-use Rattle.std.specs.Prelude.{true, false, ℕ, ◌-◌, ◌≤◌, Option, Some, None}
+use Rattle.std.specs.Prelude.{ℕ, ◌-◌, ◌≤◌, Float, Option, Some, None}
 use Rattle.bracket.specs.declared.Bracket.{Bracket}
 use Rattle.bracket.specs.declared.Bracket.TheVariants as bracket
 use Rattle.plot.specs.Double.{nearest_to}
 use Rattle.plot.specs.declared.PlotItem.{PlotItem}
 use Rattle.plot.specs.declared.PlotItem.TheVariants as item
-use Rattle.plot.specs.declared.Spread.{Spread}
 
 -- the same case, each number as a double
 unfoldable pub item_of : Bracket → PlotItem
@@ -30,14 +29,11 @@ in_order None q = Unit
 abbrev pub Ordered : Bracket → Bracket → Type 0
 Ordered q25 q75 = in_order (point_of q25) (point_of q75)
 
--- the difference of two points, and whether both are
-abbrev pub no_spread : Spread
-no_spread = record { iqr = nearest_to 0 1; has_iqr = false }
+-- the difference of two points, where both are
+abbrev pub spread : Option ℕ → Option ℕ → Option Float
+spread (Some a) (Some b) = Some (nearest_to (b - a) 1)
+spread (Some a) None = None
+spread None q = None
 
-abbrev pub spread : Option ℕ → Option ℕ → Spread
-spread (Some a) (Some b) = record { iqr = nearest_to (b - a) 1; has_iqr = true }
-spread (Some a) None = no_spread
-spread None q = no_spread
-
-abbrev pub spread_of : Bracket → Bracket → Spread
+abbrev pub spread_of : Bracket → Bracket → Option Float
 spread_of q25 q75 = spread (point_of q25) (point_of q75)

@@ -1,5 +1,6 @@
 -- TO BELIEVE: the plot record, and the operation that makes it: what it answers, and what the two lent lists then hold. Definitions.
 use Rattle.std.specs.Prelude.{ℕ, ◌+◌, ◌≤◌, Err, Ok, Result}
+use Rattle.std.specs.Option.{is_some, unwrap_or}
 use Rattle.rules.specs.declared.refusal.Refusal.{Refusal}
 use Rattle.table.specs.Table.{TableCall, mean_of}
 use Rattle.summary.specs.declared.Summary.{Summary}
@@ -28,8 +29,8 @@ record_of s = record {
   p95 = item_of s.p95;
   lower = nearest_to (lower_parts s) parts_per_one;
   upper = nearest_to (upper_parts s) parts_per_one;
-  iqr = (spread_of s.p25 s.p75).iqr;
-  has_iqr = (spread_of s.p25 s.p75).has_iqr;
+  iqr = unwrap_or (spread_of s.p25 s.p75) (nearest_to 0 1);
+  has_iqr = is_some (spread_of s.p25 s.p75);
 }
 
 -- by the summary; refused as the table is

@@ -2,6 +2,7 @@
 use Rattle.std.specs.Prelude.{◌≡◌, List, ℕ, ◌-◌, ◌≤◌, length, Err, Ok, Result, Option, Some, None}
 use Rattle.std.proofs.Math.Path.{refl}
 use Rattle.std.proofs.Common.{sym, ap, ◌∙◌, arith, lit≤}
+use Rattle.std.specs.Option.{is_some, unwrap_or}
 use Rattle.rules.specs.declared.refusal.Refusal.{Refusal}
 use Rattle.runlength.specs.Scale.{max_horizon}
 use Rattle.table.specs.Table.{TableCall, pmf_of}
@@ -10,6 +11,7 @@ use Rattle.summary.specs.Summary.{summary_by, summary_of}
 use Rattle.summary.specs.AcceptedSummary.{AcceptedSummary}
 use Rattle.summary.proofs.SummaryLaws.{accepted_summary}
 use Rattle.plot.specs.declared.PlotRecord.{PlotRecord}
+use Rattle.plot.specs.Double.{nearest_to}
 use Rattle.plot.specs.DoubleLaws.{exact}
 use Rattle.plot.specs.MeanBounds.{MeanFits}
 use Rattle.plot.specs.MeanBoundsLaws.{down_fits, up_fits}
@@ -22,8 +24,8 @@ use Rattle.table.specs.Table.{CallResult, call_result}
 -- ---- a summary of accepted chances
 
 -- the difference of two points in order, in the list's numbers, is shown exactly
-spread_shown : (x y : Option ℕ) → in_order x y → ((k : ℕ) → y ≡ Some k → k ≤ max_horizon) → (r : PlotRecord) → r.iqr ≡ (spread x y).iqr
-    → r.has_iqr ≡ (spread x y).has_iqr → ShowsSpread x y r
+spread_shown : (x y : Option ℕ) → in_order x y → ((k : ℕ) → y ≡ Some k → k ≤ max_horizon) → (r : PlotRecord)
+    → r.iqr ≡ unwrap_or (spread x y) (nearest_to 0 1) → r.has_iqr ≡ is_some (spread x y) → ShowsSpread x y r
 spread_shown (Some a) (Some b) o h r e m = (o, rw e (number (b - a) (omega (arith, h b refl))), m)
 spread_shown (Some a) None o h r e m = (rw e (number 0 (omega arith)), m)
 spread_shown None y o h r e m = (rw e (number 0 (omega arith)), m)

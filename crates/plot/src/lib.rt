@@ -40,13 +40,6 @@ pub struct PlotRecord {
     pub has_iqr: bool,
 }
 
-// The interquartile range, and whether there is one.
-#[derive(Clone, Copy)]
-struct Spread {
-    iqr: f64,
-    has_iqr: bool,
-}
-
 // Units of 2^-60 in one part of 2^-36.
 const UNITS_PER_PART: u64 = 1 << 24;
 
@@ -62,6 +55,7 @@ fn exact_mean(whole: u64, parts: u64) -> f64
 }
 
 // A restricted mean, rounded down to 2^-36.
+#[tactic(auto, using(crate::specs::MeanBoundsLaws::down_parts))]
 fn lower_mean(figures: TableFigures) -> f64
     requires { MeanFits figures }
     ensures { Exactly result (round_down (mean_of figures)) parts_per_one }
@@ -72,6 +66,7 @@ fn lower_mean(figures: TableFigures) -> f64
 }
 
 // A restricted mean with its error bound, rounded up to 2^-36.
+#[tactic(auto, using(crate::specs::MeanBoundsLaws::up_parts))]
 fn upper_mean(figures: TableFigures, error: u64) -> f64
     requires { MeanFits figures × (error ≤ max_error_bound) }
     ensures { Exactly result (round_up (mean_of figures + error)) parts_per_one }
@@ -83,38 +78,30 @@ fn upper_mean(figures: TableFigures, error: u64) -> f64
 }
 
 // The item of a percentile's bracket.
+#[tactic(auto, using(crate::specs::DoubleLaws::cast_nearest), unfolding(crate::specs::Item::item_of))]
 fn plot_item(found: Bracket) -> PlotItem
     ensures { result ≡ item_of found }
 {
     match found {
-        Bracket::At(n) => PlotItem::Point(n as f64),
-        Bracket::Between { low, high } => PlotItem::Span(low as f64, high as f64),
-        Bracket::Open(low) => PlotItem::Open(low as f64),
-        Bracket::Beyond(horizon) => PlotItem::Beyond(horizon as f64),
+        Bracket::At(n) => PlotItem::Point(f64::from(n)),
+        Bracket::Between { low, high } => PlotItem::Span(f64::from(low), f64::from(high)),
+        Bracket::Open(low) => PlotItem::Open(f64::from(low)),
+        Bracket::Beyond(horizon) => PlotItem::Beyond(f64::from(horizon)),
     }
 }
 
-// The interquartile range by the brackets of 25 and 75.
-fn quartile_spread(q25: Bracket, q75: Bracket) -> Spread
+// The interquartile range by the brackets of 25 and 75, where both are points.
+fn quartile_spread(q25: Bracket, q75: Bracket) -> Option<f64>
     requires { Ordered q25 q75 }
     ensures { result ≡ spread_of q25 q75 }
 {
     let Bracket::At(from) = q25 else {
-        return Spread {
-            iqr: 0.0,
-            has_iqr: false,
-        };
+        return None;
     };
     let Bracket::At(to) = q75 else {
-        return Spread {
-            iqr: 0.0,
-            has_iqr: false,
-        };
+        return None;
     };
-    Spread {
-        iqr: to as f64 - from as f64,
-        has_iqr: true,
-    }
+    Some(f64::from(to) - f64::from(from))
 }
 
 // The record of a table's summary.
@@ -137,8 +124,8 @@ fn plot_record(summary: Summary) -> PlotRecord
         p95: plot_item(q95),
         lower: lower_mean(figures),
         upper: upper_mean(figures, summary.error_bound),
-        iqr: range.iqr,
-        has_iqr: range.has_iqr,
+        iqr: range.unwrap_or(0.0),
+        has_iqr: range.is_some(),
     }
 }
 

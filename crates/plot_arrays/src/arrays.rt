@@ -1,6 +1,5 @@
 // The plot record as two arrays: the kinds of its items, and its doubles.
 ghost use Rattle.std.specs.Prelude.{◌≡◌, ◌<◌};
-ghost use Rattle.rules.specs.Mask.{bit};
 ghost use Rattle.plot_arrays.specs.PlotArrays.{kind_of, first_of, second_of, item_as, kinds_as, items_as, values_as};
 
 use plot::{PlotItem, PlotRecord};
@@ -46,13 +45,6 @@ fn second(item: PlotItem) -> f64
     }
 }
 
-// 1 where it is so, else 0.
-fn flag(is: bool) -> u32
-    ensures { result ≡ bit is }
-{
-    if is { 1 } else { 0 }
-}
-
 // The two doubles of item i.
 fn write_item(values: &mut [f64; VALUES], i: usize, item: PlotItem)
     requires { i < 5 }
@@ -66,16 +58,11 @@ fn write_item(values: &mut [f64; VALUES], i: usize, item: PlotItem)
 fn write_items(values: &mut [f64; VALUES], found: PlotRecord)
     ensures { values.new ≡ items_as found values.old }
 {
-    let p5 = found.p5;
-    let p25 = found.p25;
-    let p50 = found.p50;
-    let p75 = found.p75;
-    let p95 = found.p95;
-    write_item(values, 0, p5);
-    write_item(values, 1, p25);
-    write_item(values, 2, p50);
-    write_item(values, 3, p75);
-    write_item(values, 4, p95);
+    write_item(values, 0, found.p5);
+    write_item(values, 1, found.p25);
+    write_item(values, 2, found.p50);
+    write_item(values, 3, found.p75);
+    write_item(values, 4, found.p95);
 }
 
 // All the record's doubles.
@@ -92,15 +79,10 @@ pub fn write_values(values: &mut [f64; VALUES], found: PlotRecord)
 pub fn write_kinds(kinds: &mut [u32; KINDS], found: PlotRecord)
     ensures { kinds.new ≡ kinds_as found kinds.old }
 {
-    let p5 = found.p5;
-    let p25 = found.p25;
-    let p50 = found.p50;
-    let p75 = found.p75;
-    let p95 = found.p95;
-    kinds[0] = kind(p5);
-    kinds[1] = kind(p25);
-    kinds[2] = kind(p50);
-    kinds[3] = kind(p75);
-    kinds[4] = kind(p95);
-    kinds[5] = flag(found.has_iqr);
+    kinds[0] = kind(found.p5);
+    kinds[1] = kind(found.p25);
+    kinds[2] = kind(found.p50);
+    kinds[3] = kind(found.p75);
+    kinds[4] = kind(found.p95);
+    kinds[5] = u32::from(found.has_iqr);
 }
