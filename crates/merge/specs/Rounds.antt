@@ -35,8 +35,7 @@ pub record HasRoom (n : ℕ) (m : List ℕ) : Type 0 where
   pub moves : zone_count * n ≤ length m
 
 -- what a round asks for: leaders that skip none
-pub record Refinable (m leaders : List ℕ) : Type 0 where
-  pub has_room : HasRoom (length leaders) m
+pub record SkipNone (m leaders : List ℕ) : Type 0 where
   pub skips : (i : ℕ) → i < length leaders → Skips (length leaders) m leaders i
 
 -- the next leaders of the first i states

@@ -14,7 +14,7 @@ use Rattle.runlength.specs.Merged.{leader_for}
 use Rattle.runlength.proofs.ClassLaws.{leader_lowest, leader_most, same_leader, leader_same, leader_later, same_settled, settled_leader}
 use Rattle.merge.specs.Merge.{given_automaton}
 use Rattle.merge.specs.MergeLaws.{given_closed}
-use Rattle.merge.specs.Rounds.{label_of, agreeing, next_leader, HasRoom, Skips, HoldsLeaders, Refinable, NextLeaders}
+use Rattle.merge.specs.Rounds.{label_of, agreeing, next_leader, HasRoom, Skips, HoldsLeaders, SkipNone, NextLeaders}
 
 module _ {n : ℕ} {m l : List ℕ} {k : ℕ} (few : n ≤ max_states) (p : HoldsLeaders n m l k) where
   -- labels are equal exactly where k points behind the move do not tell the states apart
@@ -91,8 +91,8 @@ module _ {n : ℕ} {m : List ℕ} (l : List ℕ) {k : ℕ} (room : HasRoom n m) 
   long : length (take n l) ≡ n
   long = length-take-le n l fits
 
-  pub round_can : Refinable m (take n l)
-  round_can = record { has_room = rw long room; skips = rw long (leaders_skip room.few p) }
+  pub round_can : SkipNone m (take n l)
+  round_can = record { skips = rw long (leaders_skip room.few p) }
 
   module _ (next : List ℕ) (r : NextLeaders m (take n l) next (length (take n l))) where
     taken : (i : ℕ) → i < n → at (take n next) i ≡ next_leader n m (take n l) i

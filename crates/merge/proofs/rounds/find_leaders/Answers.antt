@@ -7,18 +7,18 @@ use Rattle.merge.proofs.rounds.find_leaders.Goals as goal
 pub loop-init : goal.loop-init
 loop-init c = none_taken c.requires.few
 
-pub refine-next-requires : goal.refine-next-requires
-refine-next-requires c = round_can c.loop.leaders c.requires (omega (arith, c.requires.few)) c.loop.invariant
+pub next_leaders-next-requires : goal.next_leaders-next-requires
+next_leaders-next-requires c = round_can c.loop.leaders c.requires (omega (arith, c.requires.few)) c.loop.invariant
 
 pub returns-then-eq : goal.returns-then-eq
 returns-then-eq c =
     round_last c.loop.leaders c.requires (omega (arith, c.requires.few)) c.loop.invariant
-    c.refine-next.result c.refine-next.ensures (omega arith) (same_text _ _ c.if-eq.ensures)
+    c.next_leaders-next.result c.next_leaders-next.ensures (omega arith) (same_text _ _ c.if-eq.ensures)
 
 pub loop-preserved : goal.loop-preserved
 loop-preserved c =
     round_next c.loop.leaders c.requires (omega (arith, c.requires.few)) c.loop.invariant
-    c.refine-next.result c.refine-next.ensures
+    c.next_leaders-next.result c.next_leaders-next.ensures
 
 pub returns : goal.returns
 returns c = held_all c.loop.invariant (omega arith)
