@@ -1,5 +1,5 @@
 -- `monitors::catrovindy_step` meets its contract: by the step's answer.
-use mathlib.Core.Path.{refl}
+use Rattle.std.proofs.Common.{refl, ap, ◌∙◌, Ok}
 use Rattle.codes.specs.Codes.{slot_list}
 use Rattle.capi.specs.MonitorCall.{monitor_of}
 use Rattle.capi.specs.MonitorCallLaws.{step_call}
@@ -11,14 +11,14 @@ returns-in-Err c =
     step_call (slot_list a.slots.now a.count) c.list_of.result (monitor_of a.state.now a.points.now) a.zone a.state.now a.points.now a.answer.now
     _ _ _ _ c.step.result _ c.list_of.ensures c.step.ensures c.in-Err.is c.code.ensures refl refl refl
 
-pub returns-in-Quiet : goal.returns-in-Quiet
-returns-in-Quiet c =
+pub returns-in-Ok-Quiet : goal.returns-in-Ok-Quiet
+returns-in-Ok-Quiet c =
     let a = c.args in
     step_call (slot_list a.slots.now a.count) c.list_of.result (monitor_of a.state.now a.points.now) a.zone a.state.now a.points.now a.answer.now
-    _ _ _ _ c.step.result _ c.list_of.ensures c.step.ensures c.in-Quiet.is refl c.write_step.ensures.state_after c.write_step.ensures.points_after c.write_step.ensures.answer_after
+    _ _ _ _ c.step.result _ c.list_of.ensures c.step.ensures (c.in-Ok-Quiet.is ∙ ap Ok c.in-Ok-Quiet.field-0-is) refl c.write_step.ensures.state_after c.write_step.ensures.points_after c.write_step.ensures.answer_after
 
-pub returns-in-Signal : goal.returns-in-Signal
-returns-in-Signal c =
+pub returns-in-Ok-Signal : goal.returns-in-Ok-Signal
+returns-in-Ok-Signal c =
     let a = c.args in
     step_call (slot_list a.slots.now a.count) c.list_of.result (monitor_of a.state.now a.points.now) a.zone a.state.now a.points.now a.answer.now
-    _ _ _ _ c.step.result _ c.list_of.ensures c.step.ensures c.in-Signal.is refl c.write_step-in-Signal.ensures.state_after c.write_step-in-Signal.ensures.points_after c.write_step-in-Signal.ensures.answer_after
+    _ _ _ _ c.step.result _ c.list_of.ensures c.step.ensures (c.in-Ok-Signal.is ∙ ap Ok c.in-Ok-Signal.field-0-is) refl c.write_step-in-Ok-Signal.ensures.state_after c.write_step-in-Ok-Signal.ensures.points_after c.write_step-in-Ok-Signal.ensures.answer_after
