@@ -60,9 +60,7 @@ fn lower_mean(figures: TableFigures) -> f64
     requires { MeanFits figures }
     ensures { Exactly result (round_down (mean_of figures)) parts_per_one }
 {
-    let whole = figures.mean_whole;
-    let fraction = figures.mean_fraction;
-    exact_mean(whole, fraction / UNITS_PER_PART)
+    exact_mean(figures.mean_whole, figures.mean_fraction / UNITS_PER_PART)
 }
 
 // A restricted mean with its error bound, rounded up to 2^-36.
@@ -71,10 +69,11 @@ fn upper_mean(figures: TableFigures, error: u64) -> f64
     requires { MeanFits figures × (error ≤ max_error_bound) }
     ensures { Exactly result (round_up (mean_of figures + error)) parts_per_one }
 {
-    let whole = figures.mean_whole;
-    let fraction = figures.mean_fraction;
-    let parts = (fraction + error + (UNITS_PER_PART - 1)) / UNITS_PER_PART;
-    exact_mean(whole + parts / PARTS_PER_ONE, parts % PARTS_PER_ONE)
+    let parts = (figures.mean_fraction + error + (UNITS_PER_PART - 1)) / UNITS_PER_PART;
+    exact_mean(
+        figures.mean_whole + parts / PARTS_PER_ONE,
+        parts % PARTS_PER_ONE,
+    )
 }
 
 // The item of a percentile's bracket.
@@ -109,21 +108,15 @@ fn plot_record(summary: Summary) -> PlotRecord
     requires { Plottable summary }
     ensures { result ≡ record_of summary }
 {
-    let figures = summary.figures;
-    let q5 = summary.p5;
-    let q25 = summary.p25;
-    let q50 = summary.p50;
-    let q75 = summary.p75;
-    let q95 = summary.p95;
-    let range = quartile_spread(q25, q75);
+    let range = quartile_spread(summary.p25, summary.p75);
     PlotRecord {
-        p5: plot_item(q5),
-        p25: plot_item(q25),
-        p50: plot_item(q50),
-        p75: plot_item(q75),
-        p95: plot_item(q95),
-        lower: lower_mean(figures),
-        upper: upper_mean(figures, summary.error_bound),
+        p5: plot_item(summary.p5),
+        p25: plot_item(summary.p25),
+        p50: plot_item(summary.p50),
+        p75: plot_item(summary.p75),
+        p95: plot_item(summary.p95),
+        lower: lower_mean(summary.figures),
+        upper: upper_mean(summary.figures, summary.error_bound),
         iqr: range.unwrap_or(0.0),
         has_iqr: range.is_some(),
     }
