@@ -14,6 +14,7 @@ use Rattle.rules.specs.InBounds.{AllInBounds}
 use Rattle.runlength.specs.Scale.{min_horizon, max_horizon, weight_total}
 use Rattle.runlength.specs.Sum.{at, sum}
 use Rattle.monitor.specs.declared.Monitor.{Monitor}
+use Rattle.monitor.specs.declared.Step.{Step}
 use Rattle.window.specs.State.{valid_state, move_of}
 use Rattle.window.specs.CanStand.{StateCanStand}
 use Rattle.window.proofs.ValidLaws.{state_exactly}
@@ -39,7 +40,7 @@ module _ (rs : List Rule) (m : Monitor) (z : ℕ) (zone : z < zone_count) where
   valid_taken v e =
       ⊎_elim
       (λ (h : max_number ≤ m.count).
-      let q : ◌≡◌ {A = Result Step Refusal} (Err bad_count) ≡ Err bad_state = sym (step_bad_count rs m z zone v h) ∙ e in
+      let q : ◌≡◌ {A = Result Step Refusal} (Err bad_count) (Err bad_state) = sym (step_bad_count rs m z zone v h) ∙ e in
       let n : bad_count ≡ bad_state = cc in
       omega (arith, ap (λ (x : Refusal). (number_of x)) n))
       (λ (h : m.count < max_number).

@@ -5,7 +5,7 @@ use Rattle.table.specs.declared.TableFigures.{TableFigures}
 use Rattle.rules.specs.declared.RuleList.{RuleList}
 use Rattle.rules.specs.declared.refusal.Refusal.{Refusal}
 use Rattle.rules.specs.Bounds.{zone_count, max_number, max_states}
-use Rattle.rules.specs.Refusal.{bad_rule_count, bad_rule_bounds, bad_zone_set}
+use Rattle.rules.specs.Refusal.{number_of, bad_rule_count, bad_rule_bounds, bad_zone_set}
 use Rattle.rules.specs.Refusal.{bad_sigma, bad_state, bad_zone, bad_count, short_list, bad_list_length, bad_state_count, bad_percent, bad_total, bad_shift}
 use Rattle.rules.specs.Check.{checked, Checked, within, unless, active_rules, check_of}
 use Rattle.rules.proofs.CheckLaws.{between}
