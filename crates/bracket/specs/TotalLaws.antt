@@ -4,7 +4,7 @@ use Rattle.std.proofs.Common.{ap, arith, le-leb}
 use Rattle.std.proofs.lemmas.Bool.{lt-leb}
 use Rattle.runlength.specs.Scale.{units_per_one}
 use Rattle.runlength.specs.Chain.{cdf_of}
-use Rattle.runlength.proofs.CdfLaws.{cdf_more, cdf_upto}
+use Rattle.runlength.proofs.CdfLaws.{cdf_zero, cdf_more, cdf_upto}
 
 module _ (pmf : List ℕ) where
   -- a chance over what is left: the whole list sums to more
@@ -16,3 +16,6 @@ module _ (pmf : List ℕ) where
   -- nothing is over at the end: the whole list sums to no more
   pub total_within : (rest i : ℕ) → cdf_of pmf i + rest ≡ units_per_one → i ≡ length pmf → leb (cdf_of pmf (length pmf)) units_per_one ≡ true
   total_within rest i e h = le-leb (cdf_of pmf (length pmf)) units_per_one (omega (arith, ap (λ (n : ℕ). cdf_of pmf n) h))
+
+-- what `sum_fits` meets its contract by
+pub ruleset total_rules = (total_within, cdf_zero, cdf_more)

@@ -37,7 +37,7 @@ impl Bracket {
 }
 
 // Whether the chances sum to at most probability one. Nothing wraps: what is left of it falls by each chance.
-#[tactic(auto, using(crate::specs::TotalLaws::total_within, runlength::proofs::CdfLaws::cdf_zero, runlength::proofs::CdfLaws::cdf_more))]
+#[tactic(auto, using(crate::specs::TotalLaws::total_rules))]
 fn sum_fits(pmf: &[u64]) -> bool
     ensures { result ≡ leb (cdf_of pmf.now (length pmf.now)) units_per_one }
 {

@@ -5,7 +5,7 @@ use Rattle.std.proofs.Math.IntN.{sub_ℕ}
 use Rattle.runlength.specs.Scale.{weight_total}
 use Rattle.shift.specs.Area.{area_at, last_area}
 use Rattle.shift.proofs.NormalArea.{normal_table}
-use Rattle.shift.proofs.AreaLaws.{area_rises, area_within, area_slows, area_joined}
+use Rattle.shift.proofs.AreaLaws.{area_count, area_read, area_rises, area_within, area_slows, area_joined}
 use Rattle.shift.specs.Shift.{normal_area, area_between, max_shift}
 use Rattle.shift.specs.Below.{below_of}
 use Rattle.shift.specs.DifferenceLaws.{Is, is_sub, is_neg, is_minus, is_same, is_as}
@@ -17,6 +17,9 @@ below_low i h = rw (lt-ltb i last_area h)
 pub below_high : (i : ℕ) → last_area ≤ i → below_of i ≡ 2 ^ 29 + area_at (i - last_area)
 unfolding below_of
 below_high i h = rw (le-ltb i last_area h)
+
+-- what `below` meets its contract by
+pub ruleset below_rules = (area_count, area_read, area_within, below_low, below_high)
 
 -- on either side of the middle
 module _ {P : Type 0} (i : ℕ) where

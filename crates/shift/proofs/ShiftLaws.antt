@@ -153,6 +153,9 @@ module _ (t : ℕ) (h : t ≤ 2 * max_shift) where
   shifted_at : Shifted (sub_ℕ t max_shift) (weights_of (sub_ℕ t max_shift))
   shifted_at = rw weights_computed (record { areas = six_areas; positive = six_positive; whole = whole; falls = falls })
 
+-- what `weights_at` meets its contract by
+pub ruleset weight_rules = (limits_rise, weights_computed)
+
 -- ---- the operation
 
 -- a shift in bounds is t - 150

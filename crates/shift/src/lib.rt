@@ -26,6 +26,7 @@ const HALF: u32 = ONE / 2;
 
 // The chance of a normal reading up to i - 450 hundredths, but for what the table leaves out below -4.50: the area on the one side of
 // the mean and on the other are the same. The table is lent, so that it is laid out once for all limits.
+#[tactic(auto, using(crate::proofs::BelowLaws::below_rules))]
 fn below(table: &[u32], i: usize) -> u32
     requires table_value { table.now ≡ areas }
     requires i_bound { i ≤ 2 * last_area }
@@ -39,7 +40,7 @@ fn below(table: &[u32], i: usize) -> u32
 }
 
 // The weights of a core that is shifted by t - 150 hundredths: the limits of the zones, less the shift, are 100 hundredths apart.
-#[tactic(auto, using(crate::proofs::ShiftLaws::limits_rise, crate::proofs::ShiftLaws::weights_computed), unfolding(crate::specs::Area::areas))]
+#[tactic(auto, using(crate::proofs::ShiftLaws::weight_rules), unfolding(crate::specs::Area::areas))]
 fn weights_at(t: usize) -> ZoneWeights
     requires { t ≤ 2 * max_shift }
     ensures { result ≡ weights_of (sub_ℕ t max_shift) }
