@@ -13,7 +13,7 @@ use Rattle.window.specs.Window.{max_age, window_base, hits_up_to, live_hit, live
 use Rattle.window.specs.WindowLaws.{cond_le}
 use Rattle.window.specs.ForgetLaws.{live_first, live_zero}
 use Rattle.window.specs.State.{valid_state}
-use Rattle.window.specs.StateLaws.{windows_on, valid_cons}
+use Rattle.window.specs.StateLaws.{windows_on, valid_cons, window_small}
 use Rattle.window.specs.Settled.{Settled, windows_from}
 
 -- ---- a window that can be given is settled
@@ -103,5 +103,8 @@ module _ (r : Rule) (w z : ℕ) (bounds : InBounds r) (t : Settled r w) where
     pub miss_next : remembered r (2 * w) ≡ next_window r w z
     miss_next = let d : 0 + 2 * w ≡ 2 * w = omega arith in rw (no_hit, d)
 
-    pub miss_empty : w ≡ 0 → 0 ≡ next_window r w z
+    pub miss_small : remembered r (2 * w) < window_base
+    miss_small = omega (arith, miss_next, window_small r w z bounds)
+
+    pub miss_empty : w ≡ 0 → w ≡ next_window r w z
     miss_empty q = rw (no_hit, q) (sym (live_zero r.k 0 (r.m - 1)))

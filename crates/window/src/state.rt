@@ -8,7 +8,7 @@ ghost use Rattle.window.specs.State.{valid_state, move_of};
 ghost use Rattle.window.specs.Settled.{CanBeGiven};
 
 use crate::Move;
-use crate::window::{BASE, MAX_AGE, settled_move, valid_window};
+use crate::window::{BASE, MAX_AGE, Window};
 use rules::RuleList;
 
 // Whether the state can be given with these rules and this many points. For the crates of this repository.
@@ -18,7 +18,10 @@ pub fn valid_state(list: RuleList, count: u32, state: u64) -> bool
 {
     let mut windows = state;
     for rule in &list.rules[..list.len as usize] {
-        if !valid_window(count, *rule, windows % BASE) {
+        let window = Window {
+            hits: windows % BASE,
+        };
+        if !window.can_be_given(count, *rule) {
             return false;
         }
         windows /= BASE;
@@ -27,11 +30,13 @@ pub fn valid_state(list: RuleList, count: u32, state: u64) -> bool
 }
 
 // The window of rule i.
-fn window_at(state: u64, i: u32) -> u64
+fn window_at(state: u64, i: u32) -> Window
     requires { i < max_rules }
-    ensures { result ≡ state / 2 ^ (max_age * i) % window_base }
+    ensures { result.hits ≡ state / 2 ^ (max_age * i) % window_base }
 {
-    (state >> (MAX_AGE * i)) % BASE
+    Window {
+        hits: (state >> (MAX_AGE * i)) % BASE,
+    }
 }
 
 // What a point does to a state that can be given, with accepted rules: every rule's window is moved once, from the last rule to the first. For
@@ -44,9 +49,9 @@ pub fn move_of(list: RuleList, state: u64, zone: u32) -> Move
     let mut mask: u32 = 0;
     let mut next: u64 = 0;
     for i in (0..list.len).rev() {
-        let moved = settled_move(list.rules[i as usize], window_at(state, i), zone);
+        let moved = window_at(state, i).settled_move(list.rules[i as usize], zone);
         mask = u32::from(moved.holds) + 2 * mask;
-        next = moved.next + BASE * next;
+        next = moved.next.hits + BASE * next;
     }
     if mask == 0 {
         return Move::Quiet(next);

@@ -13,11 +13,18 @@ pub(crate) const MAX_AGE: u32 = RuleList::MAX_WINDOW - 1;
 
 pub(crate) const BASE: u64 = 1 << MAX_AGE;
 
+// The remembered hits of one rule: the hit of age a is digit a - 1 in base 2.
+#[derive(Clone, Copy)]
+pub(crate) struct Window {
+    pub(crate) hits: u64,
+    ghost small: { hits < window_base },
+}
+
 // What a point does to a window.
 #[derive(Clone, Copy)]
 pub(crate) struct WindowMove {
     pub(crate) holds: bool,
-    pub(crate) next: u64,
+    pub(crate) next: Window,
 }
 
 // Whether the zone is in the set.
@@ -46,57 +53,63 @@ fn live_hits(k: u64, seen: u64, room: u64, window: u64) -> u64
     }
 }
 
-// How many hits a window has.
-#[tactic(auto, using(crate::specs::WindowLaws::hits_ones))]
-fn hits(window: u64) -> u32
-    ensures { result ≡ hits_up_to max_age window }
-{
-    (window % BASE).count_ones()
-}
-
-// The window with a hit at age 1 and every other hit a point older, up to the oldest age of the rule.
-fn moved_up(window: u64, ages: u32) -> u64
-    requires { (window < window_base) × (ages ≤ max_age) }
-    ensures { result ≡ (1 + 2 * window) % 2 ^ ages }
-{
-    let limit: u64 = 1 << ages;
-    (1 + 2 * window) % limit
-}
-
-// What a point does to a window that can be given. Only a hit can make the rule hold, and moves every age up by one; only a miss can make
-// older hits stale.
-pub(crate) fn settled_move(rule: Rule, window: u64, zone: u32) -> WindowMove
-    requires { InBounds rule × (window < window_base) × (zone < zone_count) × Settled rule window }
-    ensures { (result.holds ≡ window_holds rule window zone) × (result.next ≡ next_window rule window zone) }
-{
-    if is_hit(rule.zones, zone) {
-        return WindowMove {
-            holds: rule.k <= 1 + hits(window),
-            next: moved_up(window, rule.m - 1),
-        };
+impl Window {
+    // How many hits it has.
+    #[tactic(auto, using(crate::specs::WindowLaws::hits_ones))]
+    fn count(self) -> u32
+        ensures { result ≡ hits_up_to max_age self.hits }
+    {
+        self.hits.count_ones()
     }
-    if window == 0 {
-        return WindowMove {
+
+    // With a hit at age 1 and every other hit a point older, up to the oldest age of the rule.
+    fn moved_up(self, ages: u32) -> Window
+        requires { ages ≤ max_age }
+        ensures { result.hits ≡ (1 + 2 * self.hits) % 2 ^ ages }
+    {
+        let limit: u64 = 1 << ages;
+        Window {
+            hits: (1 + 2 * self.hits) % limit,
+        }
+    }
+
+    // What a point does to a window that can be given. Only a hit can make the rule hold, and moves every age up by one; only a miss can make
+    // older hits stale.
+    pub(crate) fn settled_move(self, rule: Rule, zone: u32) -> WindowMove
+        requires { InBounds rule × (zone < zone_count) × Settled rule self.hits }
+        ensures { (result.holds ≡ window_holds rule self.hits zone) × (result.next.hits ≡ next_window rule self.hits zone) }
+    {
+        if is_hit(rule.zones, zone) {
+            return WindowMove {
+                holds: rule.k <= 1 + self.count(),
+                next: self.moved_up(rule.m - 1),
+            };
+        }
+        if self.hits == 0 {
+            return WindowMove {
+                holds: false,
+                next: self,
+            };
+        }
+        WindowMove {
             holds: false,
-            next: 0,
-        };
+            next: Window {
+                hits: live_hits(u64::from(rule.k), 0, u64::from(rule.m - 1), 2 * self.hits),
+            },
+        }
     }
-    WindowMove {
-        holds: false,
-        next: live_hits(u64::from(rule.k), 0, u64::from(rule.m - 1), 2 * window),
-    }
-}
 
-// Whether the window can be given with this many points.
-pub(crate) fn valid_window(count: u32, rule: Rule, window: u64) -> bool
-    requires { InBounds rule × (window < window_base) }
-    ensures { result ≡ valid_window count rule window }
-{
-    if rule.k <= hits(window) {
-        return false;
+    // Whether it can be given with this many points.
+    pub(crate) fn can_be_given(self, count: u32, rule: Rule) -> bool
+        requires { InBounds rule }
+        ensures { result ≡ valid_window count rule self.hits }
+    {
+        if rule.k <= self.count() {
+            return false;
+        }
+        if live_hits(u64::from(rule.k), 0, u64::from(rule.m - 1), self.hits) != self.hits {
+            return false;
+        }
+        self.hits >> count.min(MAX_AGE) == 0
     }
-    if live_hits(u64::from(rule.k), 0, u64::from(rule.m - 1), window) != window {
-        return false;
-    }
-    window >> count.min(MAX_AGE) == 0
 }

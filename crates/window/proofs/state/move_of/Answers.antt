@@ -18,7 +18,7 @@ settled_move-moved-requires c =
     let i = c.loop-i.i - 1 in
     let bounds = bounds_from l.rules l.len i (omega arith) c.requires.len_le_max_rules.1 in
     let settled = settled_at l.rules l.len given.count a.state i (omega arith) given.valid in
-    ((bounds_cons l.rules l.len i (omega arith) bounds).0, omega arith, omega arith, rw c.window_at.ensures settled)
+    ((bounds_cons l.rules l.len i (omega arith) bounds).0, omega arith, rw c.window_at.ensures settled)
 
 pub overflow_mul-mask : goal.overflow_mul-mask
 overflow_mul-mask c =
