@@ -60,7 +60,7 @@ unfolding readings_from
 batch_some l m centre sigma x xs = go (reading_check l m sigma) refl
   where
     go : (c : Checked) → reading_check l m sigma ≡ c → batch_of l m centre sigma (x ∷ xs) ≡ readings_from l m centre sigma (x ∷ xs)
-    go (Ok tt) e = by_check l m centre sigma (x ∷ xs) (Ok tt) e
+    go (Ok _) e = by_check l m centre sigma (x ∷ xs) (Ok tt) e
     go (Err y) e = by_check l m centre sigma (x ∷ xs) (Err y) e ∙ rw (reading_refused l m sigma y e centre x)
 
 -- ---- how it ends

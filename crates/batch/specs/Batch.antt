@@ -34,7 +34,7 @@ readings_from l m centre sigma (x ∷ xs) = batch_by m (reading_step l m centre 
 
 -- a batch: all that it is given is checked as for a first reading, also where there is none; then its readings
 abbrev pub checked_batch : Checked → Monitor → Batch → Batch
-checked_batch (Ok tt) m b = b
+checked_batch (Ok _) m b = b
 checked_batch (Err x) m b = none_taken (Some x) m
 
 unfoldable pub batch_of : RuleList → Monitor → ℤ → ℕ → List ℤ → Batch

@@ -52,7 +52,7 @@ bracket_check pmf count p =
 
 -- the refusal, else the bracket
 abbrev pub bracket_answer : Checked → Bracket → Result Bracket Refusal
-bracket_answer (Ok tt) b = Ok b
+bracket_answer (Ok _) b = Ok b
 bracket_answer (Err x) b = Err x
 
 unfoldable pub bracket_of : List ℕ → ℕ → ℕ → Result Bracket Refusal

@@ -54,7 +54,7 @@ decoded ns x code e o q =
 
 pub coded : (ns : List ℕ) (c : Checked) (code : ℕ) → all_fit ns ≡ true → ((x : Refusal) → c ≡ Err x → OneOf ns (number_of x)) → code ≡ check_code c
     → Coded ns c code
-coded ns (Ok tt) code e f q = q
+coded ns (Ok _) code e f q = q
 coded ns (Err x) code e f q = decoded ns x code e (f x refl) q
 
 -- ---- the numbers of each operation
@@ -80,8 +80,8 @@ unfolding step_of
 step_checked_lem l m z = go (step_check l m z) (move_of (active_rules l) m.state z)
   where
     go : (c : Checked) (t : Move) → checked (step_by c (step_answer t (m.count + 1))) ≡ c
-    go (Ok tt) (Move.Quiet s) = refl
-    go (Ok tt) (Move.Signal mask) = refl
+    go (Ok _) (Move.Quiet s) = refl
+    go (Ok _) (Move.Signal mask) = refl
     go (Err x) t = refl
 
 pub step_number : (l : RuleList) (m : Monitor) (z : ℕ) (x : Refusal) → checked (step_of l m z) ≡ Err x → OneOf step_numbers (number_of x)
@@ -120,7 +120,7 @@ unfolding bracket_of
 bracket_checked_lem pmf count p = go (bracket_check pmf count p)
   where
     go : (c : Checked) → checked (bracket_answer c (percentile_bracket pmf count p)) ≡ c
-    go (Ok tt) = refl
+    go (Ok _) = refl
     go (Err x) = refl
 
 pub bracket_number : (pmf : List ℕ) (count p : ℕ) (x : Refusal) → checked (bracket_of pmf count p) ≡ Err x → OneOf bracket_numbers (number_of x)
@@ -150,7 +150,7 @@ unfolding table_of
 table_coded t = go (table_check t)
   where
     go : (c : Checked) → check_code (checked (table_by c t).answer) ≡ check_code c
-    go (Ok tt) = refl
+    go (Ok _) = refl
     go (Err x) = refl
 
 pub plot_coded : (t : TableCall) → check_code (checked (box_plot_of t).answer) ≡ check_code (checked (table_of t).answer)

@@ -66,7 +66,7 @@ batch_checked_lem l m centre sigma xs = go (reading_check l m sigma) refl
     ended b (full e t c) = rw (ne_eqb b.taken 0 (λ z. omega arith))
 
     go : (c : Checked) → reading_check l m sigma ≡ c → batch_checked (batch_of l m centre sigma xs) ≡ reading_check l m sigma
-    go (Ok tt) e = ended (batch_of l m centre sigma xs) (batch_ends l centre sigma m xs e) ∙ sym e
+    go (Ok _) e = ended (batch_of l m centre sigma xs) (batch_ends l centre sigma m xs e) ∙ sym e
     go (Err x) e =
         rw (batch_refused l m centre sigma xs x e) (sym e)
 

@@ -19,7 +19,7 @@ pub record Decodes (numbers : List ℕ) (x : Refusal) (code : ℕ) : Type 0 wher
 
 -- 0 where the call is accepted, else the refusal
 abbrev pub Coded : List ℕ → Checked → ℕ → Type 0
-Coded numbers (Ok tt) code = code ≡ 0
+Coded numbers (Ok _) code = code ≡ 0
 Coded numbers (Err x) code = Decodes numbers x code
 
 -- ---- the numbers of each function; those of the reports stand with each program

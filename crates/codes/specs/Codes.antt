@@ -24,7 +24,7 @@ code_of x = refusal_number x + 4294967296 * refusal_place x
 
 -- the code of a call, whichever it is: 0 where it is accepted, else its refusal
 abbrev pub check_code : Checked → ℕ
-check_code (Ok tt) = 0
+check_code (Ok _) = 0
 check_code (Err x) = code_of x
 
 -- the number and the place that a code says

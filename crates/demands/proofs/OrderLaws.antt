@@ -50,10 +50,10 @@ one_test true {Condition} y {c} {Rest} passes fails rest =
     back x (later n r) = (rest refl).from x r
 one_test false {Condition} y {c} {Rest} passes fails rest = record { to = on; from = back }
   where
-    on : (x : Refusal) → Err y ≡ Err x → By Condition y Rest x
+    on : (x : Refusal) → ◌≡◌ {A = Checked} (Err y) (Err x) → By Condition y Rest x
     on x e = let same : y ≡ x = cc in rw (← same) (here (fails refl))
 
-    back : (x : Refusal) → By Condition y Rest x → Err y ≡ Err x
+    back : (x : Refusal) → By Condition y Rest x → ◌≡◌ {A = Checked} (Err y) (Err x)
     back x (here a) = refl
     back x (later n r) = absurd (n (fails refl))
 
@@ -91,7 +91,7 @@ pub last : {c : Checked} {Order : Refusal → Type 0} → Follows (or_else c (Ok
 last {c} f = same_check (alone c) f
   where
     alone : (c : Checked) → or_else c (Ok tt) ≡ c
-    alone (Ok tt) = refl
+    alone (Ok _) = refl
     alone (Err x) = refl
 
     same_check : {c d : Checked} {Order : Refusal → Type 0} → c ≡ d → Follows c Order → Follows d Order
@@ -103,7 +103,7 @@ same e f = rw e f
 -- ---- rule lists
 
 grouped : (a b c : Checked) → or_else (or_else a b) c ≡ or_else a (or_else b c)
-grouped (Ok tt) b c = refl
+grouped (Ok _) b c = refl
 grouped (Err x) b c = refl
 
 module _ (i : ℕ) (r : Rule) {c : Checked} {Rest : Refusal → Type 0} where
@@ -192,9 +192,9 @@ chart_then l w largest h k e {c} rest =
     regroup : (a b c d e : Checked) → or_else (or_else a (or_else b (or_else c d))) e
         ≡ or_else a (or_else b (or_else c (or_else d e)))
     regroup (Err x) b c d e = refl
-    regroup (Ok tt) (Err x) c d e = refl
-    regroup (Ok tt) (Ok tt) (Err x) d e = refl
-    regroup (Ok tt) (Ok tt) (Ok tt) d e = refl
+    regroup (Ok _) (Err x) c d e = refl
+    regroup (Ok _) (Ok _) (Err x) d e = refl
+    regroup (Ok _) (Ok _) (Ok _) d e = refl
 
 pub table_order : (t : TableCall) → Follows (table_check t) (TableOrder t)
 unfolding table_check

@@ -74,7 +74,7 @@ step_keeps : {l : RuleList} {m : Monitor} {z : ℕ} {s p a s' p' a' : List ℕ} 
     → (s' ≡ s) × (p' ≡ p) × (a' ≡ a)
 step_keeps {l} {m} {z} {s} {p} {a} {r = r} c n = rw (c.state, c.points, c.answer) (go (step_of l m z) c.code)
   where
-    go : (b : Step) → r ≡ check_code (checked b) → (state_after b s ≡ s) × (points_after b p ≡ p)
+    go : (b : Result Step Refusal) → r ≡ check_code (checked b) → (state_after b s ≡ s) × (points_after b p ≡ p)
         × (answer_after b a ≡ a)
     go (Ok (Step.Quiet count next)) e = absurd (n e)
     go (Ok (Step.Signal count mask next)) e = absurd (n e)

@@ -86,11 +86,11 @@ module _ (l : RuleList) (m : Monitor) (sigma : ℕ) where
           → or_else c (or_else (unless f bad_sigma) (or_else (unless v bad_state) (unless n bad_count))) ≡ Err y
           → reading_step l m centre sigma x ≡ Err y
       go (Err z) ec f ef v ev n en e = reading_bad_rules l m centre sigma x y (ec ∙ e)
-      go (Ok tt) ec false ef v ev n en e = reading_bad_sigma l m centre sigma x ec ef ∙ ap Err (same e)
-      go (Ok tt) ec true ef false ev n en e = reading_bad_state l m centre sigma x ec ef ev ∙ ap Err (same e)
-      go (Ok tt) ec true ef true ev false en e =
+      go (Ok _) ec false ef v ev n en e = reading_bad_sigma l m centre sigma x ec ef ∙ ap Err (same e)
+      go (Ok _) ec true ef false ev n en e = reading_bad_state l m centre sigma x ec ef ev ∙ ap Err (same e)
+      go (Ok _) ec true ef true ev false en e =
           reading_bad_count l m centre sigma x (record { rules = ec; fits = ef; valid = ev }) (ltb-false m.count max_number en) ∙ ap Err (same e)
-      go (Ok tt) ec true ef true ev true en e = not_both y e
+      go (Ok _) ec true ef true ev true en e = not_both y e
 
   -- and where it accepts, any reading is taken
   pub reading_accepted : reading_check l m sigma ≡ Ok tt → Readable l sigma m × (m.count < max_number)
@@ -102,10 +102,10 @@ module _ (l : RuleList) (m : Monitor) (sigma : ℕ) where
           → (v : Bool) → valid_state m.count (active_rules l) m.state ≡ v → (n : Bool) → ltb m.count max_number ≡ n
           → or_else c (or_else (unless f bad_sigma) (or_else (unless v bad_state) (unless n bad_count))) ≡ Ok tt → Readable l sigma m × (m.count < max_number)
       go (Err z) ec f ef v ev n en e = not_both z (sym e)
-      go (Ok tt) ec false ef v ev n en e = not_both bad_sigma (sym e)
-      go (Ok tt) ec true ef false ev n en e = not_both bad_state (sym e)
-      go (Ok tt) ec true ef true ev false en e = not_both bad_count (sym e)
-      go (Ok tt) ec true ef true ev true en e =
+      go (Ok _) ec false ef v ev n en e = not_both bad_sigma (sym e)
+      go (Ok _) ec true ef false ev n en e = not_both bad_state (sym e)
+      go (Ok _) ec true ef true ev false en e = not_both bad_count (sym e)
+      go (Ok _) ec true ef true ev true en e =
           (record { rules = ec; fits = ef; valid = ev }, ltb-true m.count max_number en)
 
   -- what it says, part by part

@@ -21,7 +21,7 @@ step_in l m (Err x) = Err x
 
 -- refused by the rule list (2, 3, 4), then by sigma (1), then as the step in its zone is (5, 7)
 abbrev pub reading_by : Checked → RuleList → Monitor → Result ℕ Refusal → Result Step Refusal
-reading_by (Ok tt) l m t = step_in l m t
+reading_by (Ok _) l m t = step_in l m t
 reading_by (Err x) l m t = Err x
 
 unfoldable pub reading_step : RuleList → Monitor → ℤ → ℕ → ℤ → Result Step Refusal

@@ -43,7 +43,7 @@ step_check l m z = or_else (check_of l) (point_check (active_rules l) m z)
 
 -- the refusal, else the answer
 abbrev pub step_by : Checked → Step → Result Step Refusal
-step_by (Ok tt) answer = Ok answer
+step_by (Ok _) answer = Ok answer
 step_by (Err x) answer = Err x
 
 -- a step with rules that are accepted

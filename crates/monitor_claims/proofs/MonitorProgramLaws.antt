@@ -90,7 +90,7 @@ module _ (s : List ℕ) (centre : ℤ) (sigma : ℕ) (rs : List Rule) (ps : List
   by_check : (c : Checked) → check_of (rule_list_of rs) ≡ c
       → MonitorProgram s (printed_bytes (printed_by (or_else c (unless (within min_sigma max_sigma sigma) bad_sigma)) shown))
   unfolding printed_bytes
-  by_check (Ok tt) e = by_sigma e (within min_sigma max_sigma sigma) refl
+  by_check (Ok _) e = by_sigma e (within min_sigma max_sigma sigma) refl
   by_check (Err x) e = monitor-refuses (number_of x) (place_of x) refl (bad_rules centre sigma rs ps x is o e (list_number (rule_list_of rs) x e))
 
 -- a text has few points

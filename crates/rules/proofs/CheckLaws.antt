@@ -29,21 +29,6 @@ pub check_none : (slots : List Rule) (n i : ℕ) → n ≤ i → check_rules i (
 unfolding check_rules
 check_none slots n i h = rw (rules_none slots n i h)
 
--- ---- what a match on an answer tells: by its tag, 0 for accepted and 1 for refused
-
-module _ (tag : Checked → ℕ) where
-  pub is_accepted : ((x : Refusal) → tag (Err x) ≡ 1) → {a b : Checked} → a ≡ b → tag a ≡ 0 → b ≡ Ok tt
-  is_accepted one {a} e h = sym e ∙ go a h
-    where
-      go : (a : Checked) → tag a ≡ 0 → a ≡ Ok tt
-      go (Ok tt) h = refl
-      go (Err x) h = absurd (omega (arith, one x))
-
-  -- a refusal comes before whatever would follow it
-  pub is_refused : tag (Ok tt) ≡ 0 → (a b : Checked) → tag a ≡ 1 → or_else a b ≡ a
-  is_refused none (Ok tt) b h = absurd (omega arith)
-  is_refused none (Err x) b h = refl
-
 -- ---- what an accepted list has
 
 passes : (t : Bool) (x : Refusal) → unless t x ≡ Ok tt → t ≡ true
@@ -60,7 +45,7 @@ between low high x e = go (leb low x) refl e
 
 -- two checks in a row accept where both do
 pub both_accept : (a b : Checked) → or_else a b ≡ Ok tt → (a ≡ Ok tt) × (b ≡ Ok tt)
-both_accept (Ok tt) b e = (refl, e)
+both_accept (Ok _) b e = (refl, e)
 both_accept (Err x) b e = let z : ◌≡◌ {A = ℕ} 0 1 = cc in absurd (omega arith)
 
 in_bounds : (i : ℕ) (r : Rule) → check_rule i r ≡ Ok tt → InBounds r

@@ -11,7 +11,7 @@ use Rattle.rules.specs.Numbers.{rule_numbers, OneOf, here, there}
 
 -- a refusal of two checks in a row is one of theirs
 either : (a b : Checked) (x : Refusal) → or_else a b ≡ Err x → (a ≡ Err x) ⊎ (b ≡ Err x)
-either (Ok tt) b x e = inr e
+either (Ok _) b x e = inr e
 either (Err y) b x e = inl e
 
 -- where every refusal of both is one of the numbers

@@ -21,7 +21,7 @@ checked (Err x) = Err x
 
 -- the first answer if it is a refusal, else the second
 abbrev pub or_else : Checked → Checked → Checked
-or_else (Ok tt) next = next
+or_else (Ok _) next = next
 or_else (Err x) next = Err x
 
 -- accepted where the test holds, else refused

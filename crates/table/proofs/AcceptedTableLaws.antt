@@ -93,7 +93,7 @@ unfolding table_of table_check
 accepted_table t f e = go (table_check t) refl
   where
     go : (c : Checked) → table_check t ≡ c → AcceptedTable t f
-    go (Ok tt) q =
+    go (Ok _) q =
         let r : table_of t ≡ filled (chain_of t) t = rw q in
         let a = both_accept (chain_check t.list t.weights t.horizon) _ q in
         let b = both_accept (unless (leb t.horizon (length t.pmf_before)) short_list) _ a.1 in

@@ -78,7 +78,7 @@ room_check t p s =
     (go (chain_check t.list t.weights t.horizon))
   where
     go : (c : Checked) → or_else c (or_else (Ok tt) (Ok tt)) ≡ c
-    go (Ok tt) = refl
+    go (Ok _) = refl
     go (Err x) = refl
 
 pub refused_check : (t : TableCall) (x : Refusal) → (table_of t).answer ≡ Err x → table_check t ≡ Err x
@@ -86,7 +86,7 @@ unfolding table_of
 refused_check t x e = go (table_check t) refl
   where
     go : (c : Checked) → table_check t ≡ c → table_check t ≡ Err x
-    go (Ok tt) q =
+    go (Ok _) q =
         let r = rw q at e in
         absurd (let z : ◌≡◌ {A = ℕ} 0 1 = cc in omega arith)
     go (Err y) q =

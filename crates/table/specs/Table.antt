@@ -76,7 +76,7 @@ filled c t =
 
 -- a refusal leaves both lists as they were
 abbrev pub table_by : Checked → TableCall → CallResult (Result TableFigures Refusal)
-table_by (Ok tt) t = filled (chain_of t) t
+table_by (Ok _) t = filled (chain_of t) t
 table_by (Err x) t = call_result (Err x) t.pmf_before t.survival_before
 
 unfoldable pub table_of : TableCall → CallResult (Result TableFigures Refusal)

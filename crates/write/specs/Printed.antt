@@ -12,7 +12,7 @@ pub data Printed : Type 0 where
 
 -- the lines of a text that is accepted, or its refusal
 abbrev pub printed_by : Checked → List ℕ → Printed
-printed_by (Ok tt) bytes = lines bytes
+printed_by (Ok _) bytes = lines bytes
 printed_by (Err x) bytes = refused_by x
 
 -- what a program writes to standard output: the lines, or the one line of the refusal
