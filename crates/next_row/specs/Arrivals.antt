@@ -1,44 +1,22 @@
 -- What comes into a state in one point. Working definitions, and what the code that adds and multiplies asks and leaves.
-use Rattle.std.specs.Prelude.{◌≡◌, List, ℕ, ◌+◌, ◌-◌, ◌*◌, ◌≤◌, ◌<◌, length, get_or}
+use Rattle.std.specs.Prelude.{◌≡◌, List, ℕ, ◌+◌, ◌*◌, ◌≤◌, ◌<◌, length, get_or, sum_by}
 use Rattle.rules.specs.Bounds.{zone_count, max_states}
 use Rattle.runlength.specs.Sum.{sum, at}
 use Rattle.runlength.specs.Scale.{weight_total, units_per_one}
 use Rattle.sources.specs.Sources.{gathered, weighed, come, SourcesBelow, Light}
 
--- the units of the source at i
-abbrev pub units_at : List ℕ → List ℕ → ℕ → ℕ
-units_at us src i = get_or us (get_or src i 0) 0
+-- the sources of a group are states, and hold no more than probability one
+pub record CanGather (us grp : List ℕ) : Type 0 where
+  pub inside : SourcesBelow grp (length us)
+  pub room : sum_by (at us) grp ≤ units_per_one
 
--- and of the next too
-abbrev pub pair_at : List ℕ → List ℕ → ℕ → ℕ
-pair_at us src i = units_at us src i + units_at us src (i + 1)
-
-pub record CanRead (us src : List ℕ) (i : ℕ) : Type 0 where
-  pub within : i < length src
-  pub inside : SourcesBelow src (length us)
-
-pub record CanPair (us src : List ℕ) (i : ℕ) : Type 0 where
-  pub within : i + 1 < length src
-  pub inside : SourcesBelow src (length us)
-  pub room : pair_at us src i ≤ units_per_one
-
-pub record CanGather (us src : List ℕ) (b e : ℕ) : Type 0 where
-  pub order : b ≤ e
-  pub within : e ≤ length src
-  pub inside : SourcesBelow src (length us)
-  pub room : gathered src (at us) e ≤ gathered src (at us) b + units_per_one
-
--- r is the sum of the units of the sources from b to before e
-pub record Gathered (us src : List ℕ) (b e r : ℕ) : Type 0 where
-  pub value : r + gathered src (at us) b ≡ gathered src (at us) e
-
-pub record CanWeigh (us src : List ℕ) (b e w : ℕ) : Type 0 where
-  pub gather : CanGather us src b e
+pub record CanWeigh (us grp : List ℕ) (w : ℕ) : Type 0 where
+  pub gather : CanGather us grp
   pub light : w ≤ weight_total
 
--- high * 2^30 + low is w times that sum
-pub record Weighed (us src : List ℕ) (b e w high low : ℕ) : Type 0 where
-  pub value : high * weight_total + low ≡ w * (gathered src (at us) e - gathered src (at us) b)
+-- high * 2^30 + low is w times the units of the group's sources
+pub record Weighed (us grp : List ℕ) (w high low : ℕ) : Type 0 where
+  pub value : high * weight_total + low ≡ w * sum_by (at us) grp
   pub high_most : high ≤ units_per_one
   pub low_most : low ≤ units_per_one
 

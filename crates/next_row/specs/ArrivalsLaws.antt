@@ -1,87 +1,71 @@
 -- Laws of what comes into a state.
-use Rattle.std.specs.Prelude.{◌≡◌, List, ℕ, ◌+◌, ◌-◌, ◌*◌, ◌/◌, ◌%◌, ◌≤◌, ◌<◌, length}
-use Rattle.std.proofs.Math.Path.{ap}
+use Rattle.std.specs.Prelude.{◌≡◌, List, ◌∷◌, [], ℕ, zero, suc, ◌+◌, ◌-◌, ◌*◌, ◌/◌, ◌%◌, ◌≤◌, ◌<◌, length, take, drop, sum_by, slice_range}
+use Rattle.std.proofs.Math.Path.{sym, ap}
 use Rattle.std.proofs.Common.{◌∙◌, mul-le-mul}
 use native.Mathlib.Omega.{arith}
+use Rattle.std.proofs.Math.Seq.{take-suc, take-add}
+use Rattle.std.proofs.lemmas.List.{get_or-take, get_or-drop, get_or_past, length-take}
+use Rattle.std.proofs.Math.Decide.{dec_lt}
+use Rattle.std.proofs.lemmas.List.Sums.{sum_by-append, sum_by-take-le, sum_by-take-drop}
 use Rattle.std.proofs.Math.ListN.{get_or}
-use Rattle.rules.specs.Bounds.{zone_count}
 use Rattle.runlength.specs.Sum.{at}
-use Rattle.runlength.specs.SumLaws.{sum_upto}
+use Rattle.runlength.specs.SumLaws.{sum_zero, sum_upto}
 use Rattle.runlength.specs.Scale.{weight_total, units_per_one}
-use Rattle.sources.specs.Sources.{gathered, weighed, come}
-use Rattle.sources.specs.SourcesLaws.{gathered_more, gathered_upto}
+use Rattle.sources.specs.Sources.{gathered, weighed, come, SourcesBelow}
+use Rattle.sources.specs.SourcesLaws.{gathered_more}
 use Rattle.sources.specs.GroupingLaws.{weighed_more}
-use Rattle.next_row.specs.Arrivals.{units_at, pair_at, CanRead, CanPair, CanGather, Gathered, CanWeigh, Weighed, Flows, Arriving, Arrived}
+use Rattle.next_row.specs.Arrivals.{CanGather, CanWeigh, Weighed, Flows, Arriving, Arrived}
 
--- a source is a state
-pub read_in : {us src : List ℕ} {i s : ℕ} → CanRead us src i → s ≡ get_or src i 0 → s < length us
-read_in {i = i} p x = omega (arith, p.inside.inside i)
-
--- the source at i, and that behind it
-gathered_pair : (us src : List ℕ) (i : ℕ) → gathered src (at us) (i + 2) ≡ gathered src (at us) i + pair_at us src i
-gathered_pair us src i =
-    let z : i + 1 + 1 ≡ i + 2 = omega arith in
-    omega (arith, gathered_more src (at us) i, gathered_more src (at us) (i + 1), ap (gathered src (at us)) z)
-
-module _ {us src : List ℕ} {b e : ℕ} (p : CanGather us src b e) where
-  pub gather_read : {i : ℕ} → i < e → CanRead us src i
-  gather_read l = record { within = omega (arith, p.within); inside = p.inside }
-
-  pub gather_pair : {i : ℕ} → b ≤ i → i + 1 < e → CanPair us src i
-  gather_pair {i} h l = record {
-    within = omega (arith, p.within);
-    inside = p.inside;
-    room = omega (
+-- the units of the first sources, as a sum over a list of them
+gathered_take : (src : List ℕ) (u : ℕ → ℕ) (k : ℕ) → k ≤ length src → gathered src u k ≡ sum_by u (take k src)
+unfolding gathered
+gathered_take src u zero h = sum_zero _
+gathered_take src u (suc k) h =
+    let z : k + 1 ≡ suc k = omega arith in
+    omega (
       arith,
-      gathered_pair us src i,
-      gathered_upto src (at us) b i h,
-      gathered_upto src (at us) (i + 2) e (omega arith),
-      p.room,
-    );
-  }
+      gathered_take src u k (omega arith),
+      gathered_more src u k,
+      ap (gathered src u) z,
+      ap (sum_by u) (take-suc src k 0 h),
+      sum_by-append u (take k src) (get_or src k 0 ∷ []),
+    )
 
-  -- none, one, and the first two
-  pub gather_none : e ≤ b → Gathered us src b e 0
-  gather_none h = let z : e ≡ b = omega (arith, p.order) in record { value = omega (arith, ap (gathered src (at us)) z) }
+-- and of those from b to before e
+gathered_range : (src : List ℕ) (u : ℕ → ℕ) (b e : ℕ) → b ≤ e → e ≤ length src → sum_by u (slice_range src b e) + gathered src u b ≡ gathered src u e
+gathered_range src u b e h l =
+    let z : b + (e - b) ≡ e = omega arith in
+    omega (
+      arith,
+      gathered_take src u b (omega arith),
+      gathered_take src u e l,
+      ap (sum_by u) (ap (λ (k : ℕ). take k src) (sym z) ∙ take-add b (e - b) src),
+      sum_by-append u (take b src) (take (e - b) (drop b src)),
+    )
 
-  pub gather_one : {r : ℕ} → b < e → e ≤ b + 1 → r ≡ units_at us src b → Gathered us src b e r
-  gather_one h l x =
-      let z : e ≡ b + 1 = omega arith in
-      record { value = omega (arith, gathered_more src (at us) b, ap (gathered src (at us)) z) }
+-- sources of a part of the list
+below_range : {src : List ℕ} {n : ℕ} → SourcesBelow src n → (b e : ℕ) → SourcesBelow (slice_range src b e) n
+below_range {src} {n} p b e = record {
+  inside = λ k. elim (dec_lt k (e - b)) [
+    | yes h ↦ rw (get_or-take (e - b) (drop b src) k 0 h, get_or-drop b src k 0) (p.inside (b + k))
+    | no h ↦ rw (get_or_past (take (e - b) (drop b src)) k 0 (omega (arith, length-take (e - b) (drop b src)))) (omega (arith, p.inside 0))
+  ];
+}
 
-  pub gather_first : {r i : ℕ} → r ≡ pair_at us src b → i ≡ b + 2 → Gathered us src b i r
-  gather_first {r} {i} x z = record { value = omega (arith, gathered_pair us src b, ap (gathered src (at us)) z) }
-
-  -- two sources more
-  module _ {i x r : ℕ} (l : i + 1 < e) (y : x ≡ pair_at us src i) (c : Gathered us src b i r) where
-    pub gather_two_room : r + x ≤ units_per_one
-    gather_two_room =
-        omega (arith, gathered_pair us src i, c.value, gathered_upto src (at us) (i + 2) e (omega arith), p.room)
-
-    pub gather_two : Gathered us src b (i + 2) (r + x)
-    gather_two = record { value = omega (arith, gathered_pair us src i, c.value) }
-
-  -- the last of an odd number
-  module _ {i x r : ℕ} (l : i < e) (y : x ≡ units_at us src i) (c : Gathered us src b i r) where
-    pub gather_room : r + x ≤ units_per_one
-    gather_room =
-        omega (arith, gathered_more src (at us) i, c.value, gathered_upto src (at us) (i + 1) e (omega arith), p.room)
-
-    pub gather_last : e ≤ i + 1 → Gathered us src b e (r + x)
-    gather_last o =
-        let z : i + 1 ≡ e = omega arith in
-        record { value = omega (arith, gathered_more src (at us) i, c.value, ap (gathered src (at us)) z) }
-
-pub gather_done : {us src : List ℕ} {b i e r : ℕ} → i ≤ e → e ≤ i → Gathered us src b i r → Gathered us src b e r
-gather_done {i = i} {e = e} x y c = let z : i ≡ e = omega arith in rw z at c
+-- a group without its first two sources
+pub gather_rest : {us grp : List ℕ} → CanGather us grp → CanGather us (take (length grp - 2) (drop 2 grp))
+gather_rest {us} {grp} p = record {
+  inside = below_range p.inside 2 (length grp);
+  room = omega (arith, sum_by-take-le (at us) (drop 2 grp) (length grp - 2), sum_by-take-drop (at us) grp 2, p.room);
+}
 
 -- a product, split at 2^30
 split : (s w : ℕ) → s / weight_total * w * weight_total + s % weight_total * w ≡ w * s
 split s w = let e : s / weight_total * weight_total + s % weight_total ≡ s = omega arith in omega (arith, ap (λ (x : ℕ). w * x) e)
 
-module _ {us src : List ℕ} {b e w : ℕ} (p : CanWeigh us src b e w) {s v : ℕ} (i : v ≡ w) (q : Gathered us src b e s) where
+module _ {us grp : List ℕ} {w : ℕ} (p : CanWeigh us grp w) {s v : ℕ} (i : v ≡ w) (q : s ≡ sum_by (at us) grp) where
   most : s ≤ units_per_one
-  most = omega (arith, q.value, p.gather.room)
+  most = omega (arith, p.gather.room)
 
   light : v ≤ weight_total
   light = omega (arith, p.light)
@@ -92,10 +76,9 @@ module _ {us src : List ℕ} {b e w : ℕ} (p : CanWeigh us src b e w) {s v : �
   pub weigh_low : s % weight_total * v ≤ units_per_one
   weigh_low = omega (arith, mul-le-mul {n₁ = s % weight_total} {n₂ = weight_total} {m₂ = weight_total} (omega arith) light)
 
-  pub weigh_done : Weighed us src b e w (s / weight_total * v) (s % weight_total * v)
+  pub weigh_done : Weighed us grp w (s / weight_total * v) (s % weight_total * v)
   weigh_done =
-      let z : s ≡ gathered src (at us) e - gathered src (at us) b = omega (arith, q.value) in
-      record { value = split s v ∙ ap (λ (x : ℕ). x * s) i ∙ ap (λ (x : ℕ). w * x) z; high_most = weigh_high; low_most = weigh_low }
+      record { value = split s v ∙ ap (λ (x : ℕ). x * s) i ∙ ap (λ (x : ℕ). w * x) q; high_most = weigh_high; low_most = weigh_low }
 
 -- fewer states
 pub flows_upto : {us src fs ws gs : List ℕ} {n t : ℕ} → Flows us src fs ws gs n → t ≤ n → Flows us src fs ws gs t
@@ -118,52 +101,42 @@ flows_upto {us} {src} {fs} {ws} {gs} {n} {t} p h =
 
 -- one group
 module _ {us src fs ws gs : List ℕ} {n g : ℕ} (p : Flows us src fs ws gs n) (l : g < get_or gs n 0) {b e : ℕ} (x : b ≡ get_or fs g 0) (y : e ≡ get_or fs (g + 1) 0) where
-  pub group_can : CanWeigh us src b e (get_or ws g 0)
+  order : b ≤ e
+  order = omega (arith, p.order g (g + 1) (omega arith) (omega arith))
+
+  within : e ≤ length src
+  within = omega (arith, p.order (g + 1) (get_or gs n 0) (omega arith) (omega arith), p.within)
+
+  pub group_can : CanWeigh us (slice_range src b e) (get_or ws g 0)
   group_can = record {
-    gather = record {
-      order = omega (arith, p.order g (g + 1) (omega arith) (omega arith));
-      within = omega (arith, p.order (g + 1) (get_or gs n 0) (omega arith) (omega arith), p.within);
-      inside = p.inside;
-      room = rw (x, y) (p.each g l);
-    };
+    gather = record { inside = below_range p.inside b e; room = let z : gathered src (at us) e ≤ gathered src (at us) b + units_per_one = rw (x, y) (p.each g l) in omega (arith, gathered_range src (at us) b e order within) };
     light = p.light.light g;
   }
 
-  pub group_sends : {high low : ℕ} → Weighed us src b e (get_or ws g 0) high low
+  pub group_sends : {high low : ℕ} → Weighed us (slice_range src b e) (get_or ws g 0) high low
       → high * weight_total + low + weighed src fs ws (at us) g ≡ weighed src fs ws (at us) (g + 1)
-  group_sends q = omega (arith, rw (x, y) at q.value, weighed_more src fs ws (at us) g)
+  group_sends q =
+      let z : sum_by (at us) (slice_range src b e) ≡ gathered src (at us) e - gathered src (at us) b = omega (arith, gathered_range src (at us) b e order within) in
+      omega (arith, rw (z, x, y) at q.value, weighed_more src fs ws (at us) g)
 
 module _ {us src fs ws gs : List ℕ} (t : ℕ) (p : Flows us src fs ws gs (t + 1)) where
-  pub arrive_start : {g : ℕ} → g ≡ get_or gs t 0 → Arriving us src fs ws (get_or gs t 0) g 0 0
-  arrive_start e = rw e (record { value = omega arith; high_most = omega arith; low_most = omega arith })
+  pub arrive_more : {g first last high low high' low' : ℕ} → g < get_or gs (t + 1) 0 → first ≡ get_or fs g 0 → last ≡ get_or fs (g + 1) 0
+      → Arriving us src fs ws (get_or gs t 0) g high low → Weighed us (slice_range src first last) (get_or ws g 0) high' low'
+      → Arriving us src fs ws (get_or gs t 0) (g + 1) (high + high') (low + low')
+  arrive_more l x y c q = record {
+    value = omega (arith, c.value, group_sends p l x y q);
+    high_most = omega (arith, c.high_most, q.high_most);
+    low_most = omega (arith, c.low_most, q.low_most);
+  }
 
-  module _ {b g first last high low high' low' : ℕ} (l : g < get_or gs (t + 1) 0) (i : b ≡ get_or gs t 0) (x : first ≡ get_or fs g 0) (y : last ≡ get_or fs (g + 1) 0)
-      (c : Arriving us src fs ws b g high low) (q : Weighed us src first last (get_or ws g 0) high' low') where
-    pub arrive_more : Arriving us src fs ws b (g + 1) (high + high') (low + low')
-    arrive_more = record {
-      value = omega (arith, c.value, group_sends p l x y q);
-      high_most = omega (arith, c.high_most, q.high_most);
-      low_most = omega (arith, c.low_most, q.low_most);
-    }
-
-    pub arrive_high : high + high' ≤ zone_count * units_per_one
-    arrive_high = omega (arith, c.high_most, q.high_most, p.few t (omega arith))
-
-    pub arrive_low : low + low' ≤ zone_count * units_per_one
-    arrive_low = omega (arith, c.low_most, q.low_most, p.few t (omega arith))
-
-  pub arrive_done : {b g high low : ℕ} → b ≡ get_or gs t 0 → g ≤ get_or gs (t + 1) 0 → get_or gs (t + 1) 0 ≤ g
-      → Arriving us src fs ws b g high low
-      → Arrived us src fs ws gs t high low
+  pub arrive_done : {g high low : ℕ} → g ≡ get_or gs (t + 1) 0 → Arriving us src fs ws (get_or gs t 0) g high low → Arrived us src fs ws gs t high low
   unfolding come
-  arrive_done {b} {g} i x y c =
-      let z : g ≡ get_or gs (t + 1) 0 = omega arith in
-      record { value = omega (arith, c.value, ap (weighed src fs ws (at us)) z, ap (weighed src fs ws (at us)) i) }
+  arrive_done z c = record { value = omega (arith, c.value, ap (weighed src fs ws (at us)) z) }
 
 -- a state with one group
 pub one_come : {us src fs ws gs : List ℕ} {n t g b e high low : ℕ} → Flows us src fs ws gs n → t < n → g ≡ get_or gs t 0
     → get_or gs (t + 1) 0 ≡ get_or gs t 0 + 1
-    → b ≡ get_or fs g 0 → e ≡ get_or fs (g + 1) 0 → Weighed us src b e (get_or ws g 0) high low → Arrived us src fs ws gs t high low
+    → b ≡ get_or fs g 0 → e ≡ get_or fs (g + 1) 0 → Weighed us (slice_range src b e) (get_or ws g 0) high low → Arrived us src fs ws gs t high low
 unfolding come
 one_come {us} {src} {fs} {ws} {gs} {n} {t} {g} p l i o x y q =
     let z : get_or gs (t + 1) 0 ≡ g + 1 = omega arith in

@@ -3,7 +3,7 @@ ghost use Rattle.next_row.specs.OneRow.{CanRound, Rounded, CanFill, Filled, CanR
 
 use crate::inflow::{Inflow, arrive, weigh};
 use runlength::WEIGHT_TOTAL;
-use sources::index;
+use sources::SourceLists;
 
 // What the row has moved so far: left is the sum of the new units, and left * 2^30 + rest the sum of all that came into their states.
 #[derive(Clone, Copy)]
@@ -12,45 +12,44 @@ struct Moved {
     rest: u64,
 }
 
-// The new units of state t: what comes in, divided once and rounded down.
-fn round_down(into: Inflow, t: usize, before: Moved, next: &mut [u64]) -> Moved
-    requires { CanRound into.high into.low t before.left before.rest next.old }
-    ensures { Rounded into.high into.low t before.left before.rest next.old next.new result.left result.rest }
-{
-    let x = into.high + into.low / WEIGHT_TOTAL;
-    next[t] = x;
-    Moved {
-        left: before.left + x,
-        rest: before.rest + into.low % WEIGHT_TOTAL,
+impl Moved {
+    // The new units of state t too: what comes in, divided once and rounded down.
+    fn round_down(self, into: Inflow, t: usize, next: &mut [u64]) -> Moved
+        requires { CanRound into.high into.low t self.left self.rest next.old }
+        ensures { Rounded into.high into.low t self.left self.rest next.old next.new result.left result.rest }
+    {
+        let x = into.high + into.low / WEIGHT_TOTAL;
+        next[t] = x;
+        Moved {
+            left: self.left + x,
+            rest: self.rest + into.low % WEIGHT_TOTAL,
+        }
     }
 }
 
-// The new units of the states from `from` to before `stop`, each of which has one group.
+// The new units of the states from `from` to before `stop`, each of which has one group. Inlined: most stretches are short, and with a call for
+// each a table takes a sixth longer.
+#[inline(always)]
 fn stretch(
+    lists: &SourceLists,
     units: &[u64],
-    sources: &[u16],
-    firsts: &[u16],
-    shares: &[u32],
-    groups: &[u16],
     from: usize,
     stop: usize,
     before: Moved,
     next: &mut [u64],
 ) -> Moved
-    requires { CanFill units.now sources.now firsts.now shares.now groups.now from stop before.left before.rest next.old }
-    ensures { Filled units.now sources.now firsts.now shares.now groups.now stop next.new result.left result.rest }
+    requires { CanFill units.now lists.now.sources lists.now.firsts lists.now.shares lists.now.groups from stop before.left before.rest next.old }
+    ensures { Filled units.now lists.now.sources lists.now.firsts lists.now.shares lists.now.groups stop next.new result.left result.rest }
 {
     let mut moved = before;
-    let mut g = index(groups[from]);
-    let mut first = index(firsts[g]);
-    let mut t = from;
-    while t < stop {
-        let last = index(firsts[g + 1]);
-        let into = weigh(units, sources, first, last, shares[g]);
-        moved = round_down(into, t, moved, next);
+    let mut g = usize::from(lists.groups[from]);
+    let mut first = usize::from(lists.firsts[g]);
+    for t in from..stop {
+        let last = usize::from(lists.firsts[g + 1]);
+        let into = weigh(units, &lists.sources[first..last], lists.shares[g]);
+        moved = moved.round_down(into, t, next);
         first = last;
         g += 1;
-        t += 1;
     }
     moved
 }
@@ -64,38 +63,19 @@ pub struct Point {
 
 // One row: the new units from the old, which sum to `total`; the units that signal, and the sum of those that do not. Nothing is lost before
 // the division, so what signals is what comes into no state.
-fn make_row(
-    sources: &[u16],
-    firsts: &[u16],
-    shares: &[u32],
-    groups: &[u16],
-    stops: &[u16],
-    units: &[u64],
-    total: u64,
-    n: usize,
-    next: &mut [u64],
-) -> Point
-    requires { CanRow sources.now firsts.now shares.now groups.now stops.now units.now total n next.old }
-    ensures { RowDone sources.now firsts.now shares.now groups.now units.now total n next.new result.pmf result.survival }
+fn make_row(lists: &SourceLists, units: &[u64], total: u64, n: usize, next: &mut [u64]) -> Point
+    requires { CanRow lists.now.sources lists.now.firsts lists.now.shares lists.now.groups lists.now.stops units.now total n next.old }
+    ensures { RowDone lists.now.sources lists.now.firsts lists.now.shares lists.now.groups units.now total n next.new result.pmf result.survival }
 {
     let none = Moved { left: 0, rest: 0 };
-    let mut t = index(stops[0]);
-    let mut moved = stretch(units, sources, firsts, shares, groups, 0, t, none, next);
+    let mut t = usize::from(lists.stops[0]);
+    let mut moved = stretch(lists, units, 0, t, none, next);
+    // A `while`, as each turn goes on where its stretch stops.
     while t < n {
-        let into = arrive(units, sources, firsts, shares, groups, t);
-        let here = round_down(into, t, moved, next);
-        let stop = index(stops[t + 1]);
-        moved = stretch(
-            units,
-            sources,
-            firsts,
-            shares,
-            groups,
-            t + 1,
-            stop,
-            here,
-            next,
-        );
+        let into = arrive(lists, units, t);
+        let here = moved.round_down(into, t, next);
+        let stop = usize::from(lists.stops[t + 1]);
+        moved = stretch(lists, units, t + 1, stop, here, next);
         t = stop;
     }
     let left = moved.left;
@@ -108,18 +88,14 @@ fn make_row(
 // The next point: the row where units are left; once none are, every later row is 0, and `next` is as it was. For the crates of this repository:
 // it has a `requires`.
 pub fn next_point(
-    sources: &[u16],
-    firsts: &[u16],
-    shares: &[u32],
-    groups: &[u16],
-    stops: &[u16],
+    lists: &SourceLists,
     units: &[u64],
     total: u64,
     n: usize,
     next: &mut [u64],
 ) -> Point
-    requires { CanPoint sources.now firsts.now shares.now groups.now stops.now units.now total n next.old }
-    ensures { PointDone sources.now firsts.now shares.now groups.now units.now total n next.old next.new result.pmf result.survival }
+    requires { CanPoint lists.now.sources lists.now.firsts lists.now.shares lists.now.groups lists.now.stops units.now total n next.old }
+    ensures { PointDone lists.now.sources lists.now.firsts lists.now.shares lists.now.groups units.now total n next.old next.new result.pmf result.survival }
 {
     if total == 0 {
         return Point {
@@ -127,7 +103,5 @@ pub fn next_point(
             survival: 0,
         };
     }
-    make_row(
-        sources, firsts, shares, groups, stops, units, total, n, next,
-    )
+    make_row(lists, units, total, n, next)
 }

@@ -46,6 +46,14 @@ pub record Shape (src fs ws gs : List ℕ) (n t : ℕ) : Type 0 where
   pub few : (k : ℕ) → k < t → get_or gs (k + 1) 0 ≤ get_or gs k 0 + zone_count
   pub begin : (get_or fs 0 0 ≡ 0) × (get_or gs 0 0 ≡ 0)
 
+-- lists of no sources
+pub record NoSources (src fs ws gs st : List ℕ) : Type 0 where
+  pub sources : src ≡ replicate (zone_count * max_states) 0
+  pub firsts : fs ≡ replicate (zone_count * max_states + 1) 0
+  pub shares : ws ≡ replicate (zone_count * max_states) 0
+  pub groups : gs ≡ replicate (max_states + 1) 0
+  pub stops : st ≡ replicate (max_states + 1) 0
+
 -- the lists as they are lent: all 0, with room for the most states
 pub record CanListSources (m : List ℕ) (n : ℕ) (w src fs ws gs st : List ℕ) : Type 0 where
   pub some : 0 < n

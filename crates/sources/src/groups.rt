@@ -1,8 +1,9 @@
 // The groups of each state: for each zone that leads there the states that it leads from, with the zone's weight as their share.
+ghost use Rattle.std.specs.Prelude.{◌≡◌};
 ghost use Rattle.sources.specs.Grouping.{CanTake, Taken, CanCollect, Collected, CanZone, ZoneGrouped, CanGroupState, GroupedState, CanList, Listing};
 
+use crate::SourceLists;
 use crate::marks::mark;
-use crate::{index, short};
 use rules::{RuleList, ZONES};
 
 // The state s as one more source at e, if its move leads to t: where the sources end then.
@@ -11,7 +12,7 @@ fn take(sources: &mut [u16], e: usize, s: usize, entry: u16, t: u16) -> usize
     ensures { Taken sources.old e s entry t sources.new result }
 {
     if entry == t {
-        sources[e] = short(s);
+        sources[e] = s as u16;
         return e + 1;
     }
     e
@@ -23,10 +24,8 @@ fn collect(moves: &[u16], n: usize, z: usize, t: u16, sources: &mut [u16], first
     ensures { Collected moves.now n z t n sources.old first sources.new result }
 {
     let mut e = first;
-    let mut s: usize = 0;
-    while s < n {
+    for s in 0..n {
         e = take(sources, e, s, moves[ZONES * s + z], t);
-        s += 1;
     }
     e
 }
@@ -39,23 +38,29 @@ fn group_zone(
     weight: u32,
     t: u16,
     marks: &[u16],
-    sources: &mut [u16],
-    firsts: &mut [u16],
-    shares: &mut [u32],
+    lists: &mut SourceLists,
     g: usize,
 ) -> usize
-    requires { CanZone moves.now n z weight t marks.now sources.old firsts.old shares.old g }
-    ensures { ZoneGrouped moves.now n z weight t sources.old firsts.old shares.old g sources.new firsts.new shares.new result }
+    requires { CanZone moves.now n z weight t marks.now lists.old.sources lists.old.firsts lists.old.shares g }
+    ensures grouped { ZoneGrouped moves.now n z weight t lists.old.sources lists.old.firsts lists.old.shares g lists.new.sources lists.new.firsts lists.new.shares result }
+    ensures kept { lists.new.groups ≡ lists.old.groups }
 {
     if weight == 0 {
         return g;
     }
-    if marks[ZONES * index(t) + z] == 0 {
+    if marks[ZONES * usize::from(t) + z] == 0 {
         return g;
     }
-    let end = collect(moves, n, z, t, sources, index(firsts[g]));
-    shares[g] = weight;
-    firsts[g + 1] = short(end);
+    let end = collect(
+        moves,
+        n,
+        z,
+        t,
+        &mut lists.sources,
+        usize::from(lists.firsts[g]),
+    );
+    lists.shares[g] = weight;
+    lists.firsts[g + 1] = end as u16;
     g + 1
 }
 
@@ -66,55 +71,30 @@ fn group_state(
     weights: &[u32],
     t: u16,
     marks: &[u16],
-    sources: &mut [u16],
-    firsts: &mut [u16],
-    shares: &mut [u32],
+    lists: &mut SourceLists,
     first: usize,
 ) -> usize
-    requires { CanGroupState moves.now n weights.now t marks.now sources.old firsts.old shares.old first }
-    ensures { GroupedState moves.now n weights.now t sources.old firsts.old shares.old first sources.new firsts.new shares.new result }
+    requires { CanGroupState moves.now n weights.now t marks.now lists.old.sources lists.old.firsts lists.old.shares first }
+    ensures grouped { GroupedState moves.now n weights.now t lists.old.sources lists.old.firsts lists.old.shares first lists.new.sources lists.new.firsts lists.new.shares result }
+    ensures kept { lists.new.groups ≡ lists.old.groups }
 {
     let mut g = first;
-    let mut z: usize = 0;
-    while z < ZONES {
-        g = group_zone(
-            moves, n, z, weights[z], t, marks, sources, firsts, shares, g,
-        );
-        z += 1;
+    for z in 0..ZONES {
+        g = group_zone(moves, n, z, weights[z], t, marks, lists, g);
     }
     g
 }
 
 // The groups of all states, one state after the other.
-pub(crate) fn list_groups(
-    moves: &[u16],
-    n: usize,
-    weights: &[u32],
-    sources: &mut [u16],
-    firsts: &mut [u16],
-    shares: &mut [u32],
-    groups: &mut [u16],
-)
-    requires { CanList moves.now n weights.now sources.old firsts.old shares.old groups.old }
-    ensures { Listing moves.now n weights.now sources.new firsts.new shares.new groups.new n }
+pub(crate) fn list_groups(moves: &[u16], n: usize, weights: &[u32], lists: &mut SourceLists)
+    requires { CanList moves.now n weights.now lists.old.sources lists.old.firsts lists.old.shares lists.old.groups }
+    ensures { Listing moves.now n weights.now lists.new.sources lists.new.firsts lists.new.shares lists.new.groups n }
 {
     let mut marks = [0u16; ZONES * RuleList::MAX_STATES];
     mark(moves, n, &mut marks);
     let mut g: usize = 0;
-    let mut t: usize = 0;
-    while t < n {
-        g = group_state(
-            moves,
-            n,
-            weights,
-            short(t),
-            &marks,
-            sources,
-            firsts,
-            shares,
-            g,
-        );
-        groups[t + 1] = short(g);
-        t += 1;
+    for t in 0..n {
+        g = group_state(moves, n, weights, t as u16, &marks, lists, g);
+        lists.groups[t + 1] = g as u16;
     }
 }

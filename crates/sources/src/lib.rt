@@ -8,47 +8,53 @@ mod zones;
 
 ghost use Rattle.std.specs.Prelude.{◌*◌, ◌≤◌, ◌≡◌};
 ghost use Rattle.rules.specs.Bounds.{zone_count, max_states};
-ghost use Rattle.sources.specs.Sources.{CanListSources, SourcesListed};
+ghost use Rattle.sources.specs.Sources.{NoSources, CanListSources, SourcesListed};
 
 use groups::list_groups;
-use rules::ZONES;
+use rules::{RuleList, ZONES};
 use stops::list_stops;
 use zones::join;
 
-// A number of the lists, to index by.
-pub fn index(x: u16) -> usize
-    ensures { result ≡ x }
-{
-    x as usize
+// Where the units of a row come from, for all rows: the sources of group g stand from firsts[g] to before firsts[g + 1], each with the share
+// shares[g]; the groups of state t are those from groups[t] to before groups[t + 1].
+#[derive(Drop)]
+pub struct SourceLists {
+    // the states that units come from, one group after the other
+    pub sources: [u16; ZONES * RuleList::MAX_STATES],
+    // where each group's sources begin, and then where the last group's end
+    pub firsts: [u16; ZONES * RuleList::MAX_STATES + 1],
+    // the weight by which each group sends its units
+    pub shares: [u32; ZONES * RuleList::MAX_STATES],
+    // where each state's groups begin, and then where the last state's end
+    pub groups: [u16; RuleList::MAX_STATES + 1],
+    // for each state t the state that stops its stretch: from t to before it each state has one group
+    pub stops: [u16; RuleList::MAX_STATES + 1],
 }
 
-// A state or a place, to keep in a list.
-pub(crate) fn short(x: usize) -> u16
-    requires { x ≤ zone_count * max_states }
-    ensures { result ≡ x }
-{
-    x as u16
+impl SourceLists {
+    // Lists of no sources, to be filled by `list_sources`.
+    pub fn empty() -> SourceLists
+        ensures { NoSources result.sources result.firsts result.shares result.groups result.stops }
+    {
+        SourceLists {
+            sources: [0; ZONES * RuleList::MAX_STATES],
+            firsts: [0; ZONES * RuleList::MAX_STATES + 1],
+            shares: [0; ZONES * RuleList::MAX_STATES],
+            groups: [0; RuleList::MAX_STATES + 1],
+            stops: [0; RuleList::MAX_STATES + 1],
+        }
+    }
 }
 
-// The lists of the n states that `moves` gives: state s by zone z at ZONES * s + z, and any entry of n or more a signal. The sources of group g
-// stand from firsts[g] to before firsts[g + 1], each with the share shares[g]; the groups of state t are those from groups[t] to before
-// groups[t + 1]; from t to before stops[t] each state has one group. All lists are 0 before. For the crates of this repository: it has a
+// The lists of the n states that `moves` gives: state s by zone z at ZONES * s + z, and any entry of n or more a signal. All lists are 0 before.
+// They are lent and not handed out: a copy of them would double the stack that a table takes. For the crates of this repository: it has a
 // `requires`.
-pub fn list_sources(
-    moves: &[u16],
-    n: usize,
-    weights: &[u32],
-    sources: &mut [u16],
-    firsts: &mut [u16],
-    shares: &mut [u32],
-    groups: &mut [u16],
-    stops: &mut [u16],
-)
-    requires { CanListSources moves.now n weights.now sources.old firsts.old shares.old groups.old stops.old }
-    ensures { SourcesListed moves.now n weights.now sources.new firsts.new shares.new groups.new stops.new }
+pub fn list_sources(moves: &[u16], n: usize, weights: &[u32], lists: &mut SourceLists)
+    requires { CanListSources moves.now n weights.now lists.old.sources lists.old.firsts lists.old.shares lists.old.groups lists.old.stops }
+    ensures { SourcesListed moves.now n weights.now lists.new.sources lists.new.firsts lists.new.shares lists.new.groups lists.new.stops }
 {
     let mut joined = [0u32; ZONES];
     join(moves, n, weights, &mut joined);
-    list_groups(moves, n, &joined, sources, firsts, shares, groups);
-    list_stops(groups, n, stops);
+    list_groups(moves, n, &joined, lists);
+    list_stops(&lists.groups, n, &mut lists.stops);
 }

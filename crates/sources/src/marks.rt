@@ -3,7 +3,6 @@ ghost use Rattle.std.specs.Prelude.{◌*◌};
 ghost use Rattle.rules.specs.Bounds.{zone_count};
 ghost use Rattle.sources.specs.Marks.{CanSet, Set, CanMark, MarkedUpTo};
 
-use crate::index;
 use rules::ZONES;
 
 // A mark for the target t and the zone z, if t is a state.
@@ -21,9 +20,7 @@ pub(crate) fn mark(moves: &[u16], n: usize, marks: &mut [u16])
     requires { CanMark moves.now n marks.old }
     ensures { MarkedUpTo moves.now n (zone_count * n) marks.new }
 {
-    let mut k: usize = 0;
-    while k < ZONES * n {
-        set_mark(marks, index(moves[k]), k % ZONES, n);
-        k += 1;
+    for k in 0..ZONES * n {
+        set_mark(marks, usize::from(moves[k]), k % ZONES, n);
     }
 }

@@ -8,14 +8,7 @@ fn alike(moves: &[u16], n: usize, a: usize, b: usize) -> bool
     requires { CanCompare moves.now n a b }
     ensures { AlikeIf moves.now n a b result }
 {
-    let mut s: usize = 0;
-    while s < n {
-        if moves[ZONES * s + a] != moves[ZONES * s + b] {
-            return false;
-        }
-        s += 1;
-    }
-    true
+    (0..n).all(|s| moves[ZONES * s + a] == moves[ZONES * s + b])
 }
 
 // The first zone that is alike to z.
@@ -23,14 +16,7 @@ fn first_alike(moves: &[u16], n: usize, z: usize) -> usize
     requires { CanFind moves.now n z }
     ensures { AlikeZones moves.now n result z }
 {
-    let mut a: usize = 0;
-    while a < z {
-        if alike(moves, n, a, z) {
-            return a;
-        }
-        a += 1;
-    }
-    z
+    (0..z).find(|a| alike(moves, n, *a, z)).unwrap_or(z)
 }
 
 // The weights with those of alike zones joined. `joined` is all 0 before.
@@ -38,10 +24,8 @@ pub(crate) fn join(moves: &[u16], n: usize, weights: &[u32], joined: &mut [u32])
     requires { CanJoin moves.now n weights.now joined.old }
     ensures { Joined moves.now n weights.now joined.new }
 {
-    let mut z: usize = 0;
-    while z < ZONES {
+    for z in 0..ZONES {
         let a = first_alike(moves, n, z);
-        joined[a] = joined[a] + weights[z];
-        z += 1;
+        joined[a] += weights[z];
     }
 }

@@ -1,13 +1,13 @@
--- `flow::row` meets its contract: after each turn the first t states have their new units.
-use mathlib.Core.Path.{◌≡◌}
+-- `flow::make_row` meets its contract: after each turn the first t states have their new units.
 use Prim.Native.Nat.{◌-◌, ◌≤◌}
-use lib.ListN.{length}
 use Rattle.next_row.specs.OneRow.{Filled}
 use Rattle.next_row.proofs.flow.make_row.Given as goal
 
 abbrev pub invariant-loop-t : goal.invariant-loop-t
-invariant-loop-t l =
-    (l.t ≤ l.n) × (l.n ≤ length l.next) × (length l.next ≡ length l.initial.next) × Filled l.units l.sources l.firsts l.shares l.groups l.t l.next l.moved.left l.moved.rest
+invariant-loop-t l = record {
+  most : l.t ≤ l.n;
+  filled : Filled l.units l.lists.sources l.lists.firsts l.lists.shares l.lists.groups l.t l.next l.moved.left l.moved.rest;
+}
 
 abbrev pub decreases-loop-t : goal.decreases-loop-t
 decreases-loop-t l = l.n - l.t

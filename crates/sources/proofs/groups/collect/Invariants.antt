@@ -1,10 +1,6 @@
 -- `groups::collect` meets its contract: after s turns the first s states are looked at.
-use Prim.Native.Nat.{◌-◌, ◌≤◌}
 use Rattle.sources.specs.Grouping.{Collected}
 use Rattle.sources.proofs.groups.collect.Given as goal
 
 abbrev pub invariant-loop-s : goal.invariant-loop-s
-invariant-loop-s l = (l.s ≤ l.n) × Collected l.moves l.n l.z l.t l.s l.initial.sources l.first l.sources l.e
-
-abbrev pub decreases-loop-s : goal.decreases-loop-s
-decreases-loop-s l = l.n - l.s
+invariant-loop-s l = Collected l.moves l.n l.z l.t l.s l.initial.sources l.first l.sources l.e

@@ -1,9 +1,0 @@
--- `zones::first_alike` meets its contract.
-use Rattle.sources.specs.AlikeZonesLaws.{alike_found, alike_self}
-use Rattle.sources.proofs.zones.first_alike.Goals as goal
-
-pub returns-then-alike : goal.returns-then-alike
-returns-then-alike c = search alike_found
-
-pub returns : goal.returns
-returns c = search alike_self
