@@ -3,8 +3,10 @@
 
 mod failure;
 mod input;
+mod program;
 mod written;
 
 pub use failure::Failure;
 pub use input::read_input;
+pub use program::run;
 pub use written::lines;
