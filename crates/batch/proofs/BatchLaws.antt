@@ -1,5 +1,5 @@
 -- Laws of a batch: what it is refused by, how it ends, and one reading more of those that are left.
-use Rattle.std.specs.Prelude.{◌≡◌, true, false, ℕ, ◌+◌, ◌≤◌, ◌<◌, ℤ, pos, length, get_or}
+use Rattle.std.specs.Prelude.{◌≡◌, true, false, ℕ, ◌+◌, ◌≤◌, ◌<◌, ℤ, pos, length, get_or, Err, None, Ok, Some}
 use Rattle.std.proofs.Math.Path.{refl, ap}
 use Rattle.std.proofs.Common.{sym, ◌∙◌, add-one, drop_of_length-le, drop-cons}
 use Rattle.std.proofs.Math.Logic.{⊎_elim}
@@ -7,12 +7,10 @@ use mathlib.Core.List.{List, [], ◌∷◌}
 use native.Mathlib.Omega.{arith}
 use Rattle.std.proofs.Math.ListN.{drop}
 use Rattle.rules.specs.declared.RuleList.{RuleList}
-use Rattle.rules.specs.declared.Checked.{Checked}
-use Rattle.rules.specs.declared.Checked.TheVariants.{Accepted}
 use Rattle.rules.specs.declared.refusal.Refusal.{Refusal}
 use Rattle.rules.specs.Bounds.{max_number}
-use Rattle.rules.specs.Check.{within, active_rules, check_of}
-use Rattle.rules.specs.Refusal.{not_refused, bad_sigma, bad_state, bad_count}
+use Rattle.rules.specs.Check.{Checked, within, active_rules, check_of}
+use Rattle.rules.specs.Refusal.{bad_sigma, bad_state, bad_count}
 use Rattle.monitor.specs.declared.Monitor.{Monitor}
 use Rattle.monitor.specs.declared.Taken.{Taken}
 use Rattle.window.specs.State.{valid_state}
@@ -25,7 +23,6 @@ use Rattle.monitor.proofs.ReadingLaws.{reading_bad_count, reading_taken, reading
 use Rattle.monitor.specs.Zone.{min_sigma, max_sigma}
 use Rattle.batch.specs.declared.Batch.{Batch}
 use Rattle.batch.specs.Batch.{none_taken, after, batch_by, readings_from, checked_batch, batch_of, Ends, unrefused, full, Left}
-use Rattle.batch.specs.declared.LastPoint.{LastPoint}
 
 -- ---- the check
 
@@ -34,27 +31,27 @@ module _ (l : RuleList) (m : Monitor) (centre : ℤ) (sigma : ℕ) (xs : List �
   unfolding batch_of
   by_check c e = rw e
 
-  pub batch_refused : (y : Refusal) → reading_check l m sigma ≡ Checked.Refused y → batch_of l m centre sigma xs ≡ none_taken y m
-  batch_refused y e = by_check (Checked.Refused y) e
+  pub batch_refused : (y : Refusal) → reading_check l m sigma ≡ Err y → batch_of l m centre sigma xs ≡ none_taken (Some y) m
+  batch_refused y e = by_check (Err y) e
 
-  pub rules_refused : (y : Refusal) → check_of l ≡ Checked.Refused y → batch_of l m centre sigma xs ≡ none_taken y m
+  pub rules_refused : (y : Refusal) → check_of l ≡ Err y → batch_of l m centre sigma xs ≡ none_taken (Some y) m
   rules_refused y e = batch_refused y (check_bad_rules l m sigma y e)
 
-  module _ (ok : check_of l ≡ Accepted) where
-    pub sigma_refused : within min_sigma max_sigma sigma ≡ false → batch_of l m centre sigma xs ≡ none_taken bad_sigma m
+  module _ (ok : check_of l ≡ Ok tt) where
+    pub sigma_refused : within min_sigma max_sigma sigma ≡ false → batch_of l m centre sigma xs ≡ none_taken (Some bad_sigma) m
     sigma_refused e = batch_refused bad_sigma (check_bad_sigma l m sigma ok e)
 
     pub state_refused : within min_sigma max_sigma sigma ≡ true
         → valid_state m.count (active_rules l) m.state ≡ false
-        → batch_of l m centre sigma xs ≡ none_taken bad_state m
+        → batch_of l m centre sigma xs ≡ none_taken (Some bad_state) m
     state_refused fits e = batch_refused bad_state (check_bad_state l m sigma ok fits e)
 
   module _ (r : Readable l sigma m) where
-    pub count_refused : max_number ≤ m.count → batch_of l m centre sigma xs ≡ none_taken bad_count m
+    pub count_refused : max_number ≤ m.count → batch_of l m centre sigma xs ≡ none_taken (Some bad_count) m
     count_refused h = batch_refused bad_count (check_bad_count l m sigma r h)
 
     pub batch_taken : m.count < max_number → batch_of l m centre sigma xs ≡ readings_from l m centre sigma xs
-    batch_taken h = by_check Accepted (check_accepted l m sigma r h)
+    batch_taken h = by_check (Ok tt) (check_accepted l m sigma r h)
 
 -- The check is that of a first reading: where there is one, it changes nothing.
 pub batch_some : (l : RuleList) (m : Monitor) (centre : ℤ) (sigma : ℕ) (x : ℤ) (xs : List ℤ)
@@ -63,8 +60,8 @@ unfolding readings_from
 batch_some l m centre sigma x xs = go (reading_check l m sigma) refl
   where
     go : (c : Checked) → reading_check l m sigma ≡ c → batch_of l m centre sigma (x ∷ xs) ≡ readings_from l m centre sigma (x ∷ xs)
-    go Accepted e = by_check l m centre sigma (x ∷ xs) Accepted e
-    go (Checked.Refused y) e = by_check l m centre sigma (x ∷ xs) (Checked.Refused y) e ∙ rw (reading_refused l m sigma y e centre x)
+    go (Ok tt) e = by_check l m centre sigma (x ∷ xs) (Ok tt) e
+    go (Err y) e = by_check l m centre sigma (x ∷ xs) (Err y) e ∙ rw (reading_refused l m sigma y e centre x)
 
 -- ---- how it ends
 
@@ -73,7 +70,7 @@ ends_after b (unrefused e) = unrefused e
 ends_after b (full e t c) = full e (omega arith) c
 
 -- by the step of a reading that is taken
-ends_taken : (m : Monitor) (count : ℕ) (t : Taken) (rest : Monitor → Batch) → Ends (after 1 (rest (next_of t))) → Ends (batch_by m (step_taken count t) rest)
+ends_taken : (m : Monitor) (count : ℕ) (t : Taken) (rest : Monitor → Batch) → Ends (after 1 (rest (next_of t))) → Ends (batch_by m (Ok (step_taken count t)) rest)
 ends_taken m count (Taken.Quiet next) rest e = e
 ends_taken m count (Taken.Signal mask) rest e = unrefused refl
 
@@ -100,12 +97,12 @@ module _ (l : RuleList) (centre : ℤ) (sigma : ℕ) where
 
   -- A batch that is not refused took its readings up to a signal or the end, or met a full count behind readings that it took: only 7 can
   -- come at a later reading.
-  pub batch_ends : (m : Monitor) (xs : List ℤ) → reading_check l m sigma ≡ Accepted → Ends (batch_of l m centre sigma xs)
+  pub batch_ends : (m : Monitor) (xs : List ℤ) → reading_check l m sigma ≡ Ok tt → Ends (batch_of l m centre sigma xs)
   unfolding readings_from
-  batch_ends m [] e = rw (by_check l m centre sigma [] Accepted e) (unrefused refl)
+  batch_ends m [] e = rw (by_check l m centre sigma [] (Ok tt) e) (unrefused refl)
   batch_ends m (x ∷ xs) e =
       let r = reading_accepted l m sigma e in
-      rw (by_check l m centre sigma (x ∷ xs) Accepted e)
+      rw (by_check l m centre sigma (x ∷ xs) (Ok tt) e)
       (first_ends x xs m r.0 r.1 (later_ends xs (next_of (point_at l m centre sigma x)) (reading_next l m centre sigma x r.0)))
 
 -- ---- the readings left, from i on
@@ -123,10 +120,13 @@ left_all l m centre sigma xs r =
 
 module _ {l : RuleList} {start : Monitor} {centre : ℤ} {sigma : ℕ} {xs : List ℤ} {m : Monitor} {i : ℕ}
     (left : Left l start centre sigma xs m i) where
-  pub left_none : length xs ≤ i → readings_from l start centre sigma xs
-      ≡ record { taken = i; refusal = not_refused; count = m.count; last = LastPoint.Quiet; next = m }
+  pub left_none : i ≡ length xs → readings_from l start centre sigma xs
+      ≡ record { taken = length xs; refusal = None; count = m.count; signal = None; next = m }
   unfolding readings_from
-  left_none h = let e : i + 0 ≡ i = omega arith in left.same ∙ rw (drop_of_length-le xs h, e)
+  left_none h =
+      let e : i + 0 ≡ length xs = omega arith in
+      let past : length xs ≤ i = omega arith in
+      left.same ∙ rw (drop_of_length-le xs past, e)
 
   module _ (h : i < length xs) where
     -- the next reading
@@ -142,14 +142,14 @@ module _ {l : RuleList} {start : Monitor} {centre : ℤ} {sigma : ℕ} {xs : Lis
         (drop-cons xs i (pos 0) h ∙ ap (λ (t : ℕ). x ∷ drop t xs) (sym (add-one i)))
 
     pub left_full : max_number ≤ m.count → readings_from l start centre sigma xs
-        ≡ record { taken = i; refusal = bad_count; count = m.count; last = LastPoint.Quiet; next = m }
+        ≡ record { taken = i; refusal = Some bad_count; count = m.count; signal = None; next = m }
     left_full q =
         let e : i + 0 ≡ i = omega arith in
         left_first ∙ rw (reading_bad_count l m centre sigma x left.readable q, e)
 
     -- the point at it
     pub left_signal : {mask : ℕ} → m.count < max_number → Taken.Signal mask ≡ point_at l m centre sigma x → readings_from l start centre sigma xs
-        ≡ record { taken = i + 1; refusal = not_refused; count = m.count + 1; last = LastPoint.Signal mask; next = fresh_monitor }
+        ≡ record { taken = i + 1; refusal = None; count = m.count + 1; signal = Some mask; next = fresh_monitor }
     left_signal q p = left_first ∙ rw (reading_taken l m centre sigma x left.readable q, ← p)
 
     pub left_quiet : {next : Monitor} → m.count < max_number → Taken.Quiet next ≡ point_at l m centre sigma x → Left l start centre sigma xs next (i + 1)

@@ -1,52 +1,25 @@
 // A batch of readings on one chart: what the rule list alone decides is decided once.
 #![tactic(auto)]
 
-ghost use Rattle.std.specs.Prelude.{◌≡◌};
-ghost use Rattle.monitor.specs.Reading.{Readable};
+ghost use Rattle.std.specs.Prelude.{◌≡◌, Some};
+ghost use Rattle.monitor.specs.Reading.{Readable, reading_check};
 ghost use Rattle.batch.specs.Batch.{none_taken, readings_from, batch_of};
 
 use monitor::zone::{sigma_fits, zone_at};
 use monitor::{Monitor, Taken};
-use rules::{Checked, MAX_NUMBER, Refusal, RuleList};
+use rules::{MAX_NUMBER, Refusal, RuleList};
 
-// How far the readings were taken. It stopped at a refusal where the refusal's number is not 0: where `taken` is 0 the batch is refused, else
-// reading `taken` met a full count and was not taken. It stopped at a signal where the last reading taken is one. Else all were taken.
+// How far the readings were taken. It stopped at a refusal where there is one: where `taken` is 0 the batch is refused, else reading `taken`
+// met a full count and was not taken. It stopped at a signal where the last reading taken is one, and then `signal` has its mask. Else all were
+// taken.
 #[derive(Clone, Copy)]
 pub struct Batch {
     pub taken: usize,
-    pub refusal: Refusal,
+    pub refusal: Option<Refusal>,
     pub count: u32,
-    pub last: LastPoint,
+    pub signal: Option<u32>,
     pub next: Monitor,
 }
-
-// What the last reading that was taken is answered: quiet, also where none was, or signal with its mask.
-#[derive(Clone, Copy)]
-pub enum LastPoint {
-    Quiet,
-    Signal(u32),
-}
-
-// The refusal of a batch that refuses nothing.
-const NO_REFUSAL: Refusal = Refusal {
-    number: 0,
-    place: 0,
-};
-
-const BAD_SIGMA: Refusal = Refusal {
-    number: Refusal::SIGMA,
-    place: 0,
-};
-
-const BAD_STATE: Refusal = Refusal {
-    number: Refusal::STATE,
-    place: 0,
-};
-
-const BAD_COUNT: Refusal = Refusal {
-    number: Refusal::COUNT,
-    place: 0,
-};
 
 // The readings where nothing can be refused but for the count.
 fn take_accepted(
@@ -59,54 +32,68 @@ fn take_accepted(
     requires { Readable list sigma monitor }
     ensures { result ≡ readings_from list monitor centre sigma readings.now }
 {
-    let len = readings.len();
     let mut at = monitor;
-    let mut i: usize = 0;
-    while i < len {
+    for (i, reading) in readings.iter().enumerate() {
         let points = at.count;
         if points >= MAX_NUMBER {
             return Batch {
                 taken: i,
-                refusal: BAD_COUNT,
+                refusal: Some(Refusal::Count),
                 count: points,
-                last: LastPoint::Quiet,
+                signal: None,
                 next: at,
             };
         }
-        match at.take(list, zone_at(readings[i], centre, sigma)) {
+        match at.take(list, zone_at(*reading, centre, sigma)) {
             Taken::Quiet(next) => at = next,
             Taken::Signal(mask) => {
                 return Batch {
                     taken: i + 1,
-                    refusal: NO_REFUSAL,
+                    refusal: None,
                     count: points + 1,
-                    last: LastPoint::Signal(mask),
+                    signal: Some(mask),
                     next: Monitor::fresh(),
                 };
             }
         }
-        i += 1;
     }
     Batch {
-        taken: i,
-        refusal: NO_REFUSAL,
+        taken: readings.len(),
+        refusal: None,
         count: at.count,
-        last: LastPoint::Quiet,
+        signal: None,
         next: at,
     }
 }
 
 // No reading taken, for this reason.
 fn none_taken(refusal: Refusal, monitor: Monitor) -> Batch
-    ensures { result ≡ none_taken refusal monitor }
+    ensures { result ≡ none_taken (Some refusal) monitor }
 {
     Batch {
         taken: 0,
-        refusal,
+        refusal: Some(refusal),
         count: monitor.count,
-        last: LastPoint::Quiet,
+        signal: None,
         next: monitor,
     }
+}
+
+// What a first reading would be refused by: 2, 3, 4; 1; 5; 7, in this order.
+fn check(list: RuleList, monitor: Monitor, sigma: u32) -> Result<(), Refusal>
+    ensures { result ≡ reading_check list monitor sigma }
+{
+    list.check()?;
+    if !sigma_fits(sigma) {
+        return Err(Refusal::Sigma);
+    }
+    if !monitor.valid(list) {
+        return Err(Refusal::State);
+    }
+    if monitor.count >= MAX_NUMBER {
+        return Err(Refusal::Count);
+    }
+    Ok(())
 }
 
 // Readings taken one after another until one signals, one is refused, or none is left. All that is given is checked as for a first reading,
@@ -120,18 +107,8 @@ pub fn take_readings(
 ) -> Batch
     ensures { result ≡ batch_of list monitor centre sigma readings.now }
 {
-    let checked = list.check();
-    if let Checked::Refused(refusal) = checked {
-        return none_taken(refusal, monitor);
+    match check(list, monitor, sigma) {
+        Err(refusal) => none_taken(refusal, monitor),
+        Ok(()) => take_accepted(list, monitor, centre, sigma, readings),
     }
-    if !sigma_fits(sigma) {
-        return none_taken(BAD_SIGMA, monitor);
-    }
-    if !monitor.valid(list) {
-        return none_taken(BAD_STATE, monitor);
-    }
-    if monitor.count >= MAX_NUMBER {
-        return none_taken(BAD_COUNT, monitor);
-    }
-    take_accepted(list, monitor, centre, sigma, readings)
 }

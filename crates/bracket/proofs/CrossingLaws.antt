@@ -1,8 +1,7 @@
 -- Laws of the search for a bound: its sum fits, its turns, and which search finds low and which high.
-use Rattle.std.specs.Prelude.{◌≡◌, List, ℕ, ◌+◌, ◌-◌, ◌*◌, ◌/◌, ◌≤◌, ◌<◌, length, get_or}
+use Rattle.std.specs.Prelude.{◌≡◌, List, ℕ, ◌+◌, ◌-◌, ◌*◌, ◌/◌, ◌≤◌, ◌<◌, length, get_or, Some, None}
 use Rattle.std.proofs.Common.{ap, ◌∙◌, mul-le-mul, arith, le-leb}
 use Rattle.std.proofs.Math.Path.{ap₂}
-use Rattle.std.proofs.Math.Option.{none, some}
 use Rattle.std.proofs.Math.Dec.{leb}
 use Rattle.std.proofs.lemmas.Bool.{lt-leb}
 use Rattle.runlength.specs.Percentile.{least}
@@ -36,7 +35,7 @@ module _ (pmf : List ℕ) (slack goal : ℕ) where
         (arith, sum_next, fits.total, cdf_upto pmf (n + 1) (length pmf) (omega arith), mul-le-mul {n₁ = n + 1} {m₁ = slack} {n₂ = max_horizon} {m₂ = max_states + 1} (omega (arith, fits.short)) s)
 
     -- the goal is reached at n + 1
-    pub searched_here : goal ≤ sum + (get_or pmf n 0 + slack) → least (reach_test pmf slack goal) (length pmf) ≡ some (n + 1)
+    pub searched_here : goal ≤ sum + (get_or pmf n 0 + slack) → least (reach_test pmf slack goal) (length pmf) ≡ Some (n + 1)
     unfolding reach_test
     searched_here h =
         least_here (reach_test pmf slack goal) n (length pmf) before.none_yet (le-leb goal (cdf_of pmf (n + 1) + (n + 1) * slack) (omega (arith, sum_next))) (omega arith)
@@ -51,7 +50,7 @@ module _ (pmf : List ℕ) (slack goal : ℕ) where
     }
 
   -- it never is
-  pub searched_end : (sum n : ℕ) → Searched pmf slack goal sum n → length pmf ≤ n → least (reach_test pmf slack goal) (length pmf) ≡ none
+  pub searched_end : (sum n : ℕ) → Searched pmf slack goal sum n → length pmf ≤ n → least (reach_test pmf slack goal) (length pmf) ≡ None
   searched_end sum n before h =
       least_end (reach_test pmf slack goal) n (length pmf) before.none_yet (omega (arith, before.upto))
 

@@ -1,17 +1,14 @@
 -- TO BELIEVE: the percentile bracket of a list of chances: document 01's low and high, its answers and its refusals. Definitions.
-use Rattle.std.specs.Prelude.{ℕ, ◌+◌, ◌*◌, Bool, cond, List, leb, ltb, eqb, length}
-use Rattle.std.proofs.Math.Option.{Option, none, some}
+use Rattle.std.specs.Prelude.{ℕ, ◌+◌, ◌*◌, Bool, cond, List, leb, ltb, eqb, length, Err, Ok, Result, Option, Some, None}
+use Rattle.rules.specs.declared.refusal.Refusal.{Refusal}
 use Rattle.rules.specs.Bounds.{max_states}
 use Rattle.rules.specs.Refusal.{bad_list_length, bad_state_count, bad_percent, bad_total}
-use Rattle.rules.specs.declared.Checked.{Checked}
-use Rattle.rules.specs.Check.{within, or_else, unless}
+use Rattle.rules.specs.Check.{Checked, within, or_else, unless}
 use Rattle.runlength.specs.Scale.{min_horizon, max_horizon, units_per_one, percents_per_one}
 use Rattle.runlength.specs.Chain.{cdf_of}
 use Rattle.runlength.specs.Percentile.{least}
 use Rattle.bracket.specs.declared.Bracket.{Bracket}
 use Rattle.bracket.specs.declared.Bracket.TheVariants.{At, Between, Open, Beyond}
-use Rattle.bracket.specs.declared.BracketAnswer.{BracketAnswer}
-use Rattle.bracket.specs.declared.BracketAnswer.TheVariants.{Accepted, Refused}
 use Rattle.bracket.specs.Limits.{min_states, min_percent, max_percent}
 
 -- ---- two tests of a running sum in units
@@ -36,9 +33,9 @@ low_test pmf count p = passes (λ n. cdf_of pmf n + n * (count + 1)) p
 
 -- by low and high, of a list of h chances: at n where they are equal, else between; open with no high, beyond h with neither
 unfoldable pub bracket_by : Option ℕ → Option ℕ → ℕ → Bracket
-bracket_by none high h = Beyond h
-bracket_by (some low) none h = Open low
-bracket_by (some low) (some high) h = cond (eqb low high) (At low) (Between low high)
+bracket_by None high h = Beyond h
+bracket_by (Some low) None h = Open low
+bracket_by (Some low) (Some high) h = cond (eqb low high) (At low) (Between low high)
 
 -- by the least n, from 1 to the list's length, that pass the two tests
 unfoldable pub percentile_bracket : List ℕ → ℕ → ℕ → Bracket
@@ -54,9 +51,9 @@ bracket_check pmf count p =
     (unless (leb (cdf_of pmf (length pmf)) units_per_one) bad_total)))
 
 -- the refusal, else the bracket
-abbrev pub bracket_answer : Checked → Bracket → BracketAnswer
-bracket_answer Checked.Accepted b = Accepted b
-bracket_answer (Checked.Refused x) b = Refused x
+abbrev pub bracket_answer : Checked → Bracket → Result Bracket Refusal
+bracket_answer (Ok tt) b = Ok b
+bracket_answer (Err x) b = Err x
 
-unfoldable pub bracket_of : List ℕ → ℕ → ℕ → BracketAnswer
+unfoldable pub bracket_of : List ℕ → ℕ → ℕ → Result Bracket Refusal
 bracket_of pmf count p = bracket_answer (bracket_check pmf count p) (percentile_bracket pmf count p)

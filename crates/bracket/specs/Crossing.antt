@@ -1,9 +1,6 @@
 -- The search for a bound: what it asks of the list, what it looks for, and what holds on its way. Working definitions.
-use Rattle.std.specs.Prelude.{ℕ, ◌+◌, ◌*◌, ◌≤◌, ◌≡◌, Bool, List, leb, length}
-use Rattle.std.proofs.Math.Option.{Option, none, some}
+use Rattle.std.specs.Prelude.{ℕ, ◌+◌, ◌*◌, ◌≤◌, ◌≡◌, Bool, List, leb, length, None}
 use Rattle.runlength.specs.Percentile.{least}
-use Rattle.bracket.specs.declared.search.Crossing.{Crossing}
-use Rattle.bracket.specs.declared.search.Crossing.TheVariants.{First, Never}
 use Rattle.runlength.specs.Scale.{max_horizon, units_per_one}
 use Rattle.runlength.specs.Chain.{cdf_of}
 
@@ -11,11 +8,6 @@ use Rattle.runlength.specs.Chain.{cdf_of}
 pub record Summable (pmf : List ℕ) : Type 0 where
   pub short : length pmf ≤ max_horizon
   pub total : cdf_of pmf (length pmf) ≤ units_per_one
-
--- what was found, if anything
-abbrev pub option_of : Crossing → Option ℕ
-option_of (First n) = some n
-option_of Never = none
 
 -- the first n chances, with the slack added for each, sum to the goal or more
 unfoldable pub reach_test : List ℕ → ℕ → ℕ → ℕ → Bool
@@ -25,4 +17,4 @@ reach_test pmf slack goal n = leb goal (cdf_of pmf n + n * slack)
 pub record Searched (pmf : List ℕ) (slack goal sum n : ℕ) : Type 0 where
   pub upto : n ≤ length pmf
   pub summed : sum ≡ cdf_of pmf n + n * slack
-  pub none_yet : least (reach_test pmf slack goal) n ≡ none
+  pub none_yet : least (reach_test pmf slack goal) n ≡ None

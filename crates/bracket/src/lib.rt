@@ -2,17 +2,14 @@
 #![tactic(auto)]
 
 ghost use Rattle.std.specs.Prelude.{◌≡◌, leb, length};
-ghost use Rattle.rules.specs.Refusal.{refusal};
 ghost use Rattle.runlength.specs.Scale.{units_per_one};
 ghost use Rattle.runlength.specs.Chain.{cdf_of};
-ghost use Rattle.bracket.specs.declared.BracketAnswer.TheVariants.{Refused};
 ghost use Rattle.bracket.specs.Bracket.{bracket_by, percentile_bracket, bracket_of};
 ghost use Rattle.bracket.specs.AcceptedBracket.{AcceptedBracket};
-ghost use Rattle.bracket.specs.Crossing.{option_of};
 
 use rules::{Refusal, RuleList};
 use runlength::{MAX_HORIZON, MIN_HORIZON, UNITS_PER_ONE};
-use search::{Crossing, lower, upper};
+use search::{lower, upper};
 
 mod search;
 
@@ -25,13 +22,7 @@ pub enum Bracket {
     Beyond(u32),
 }
 
-#[derive(Clone, Copy)]
-pub enum BracketAnswer {
-    Accepted(Bracket),
-    Refused(Refusal),
-}
-
-impl BracketAnswer {
+impl Bracket {
     pub const MIN_LENGTH: usize = MIN_HORIZON as usize;
 
     pub const MAX_LENGTH: usize = MAX_HORIZON as usize;
@@ -45,37 +36,28 @@ impl BracketAnswer {
     pub const MAX_PERCENT: u32 = 99;
 }
 
-// The refusal by a number, which has no place.
-fn refused(number: u32) -> BracketAnswer
-    ensures { result ≡ Refused (refusal number 0) }
-{
-    BracketAnswer::Refused(Refusal { number, place: 0 })
-}
-
 // Whether the chances sum to at most probability one. Nothing wraps: what is left of it falls by each chance.
 fn sum_fits(pmf: &[u64]) -> bool
     ensures { result ≡ leb (cdf_of pmf.now (length pmf.now)) units_per_one }
 {
     let mut rest = UNITS_PER_ONE;
-    let mut i = 0;
-    while i < pmf.len() {
-        if pmf[i] > rest {
+    for chance in pmf {
+        if *chance > rest {
             return false;
         }
-        rest -= pmf[i];
-        i += 1;
+        rest -= *chance;
     }
     true
 }
 
 // The bracket that the two bounds make.
-fn bracket_by(low: Crossing, high: Crossing, len: u32) -> Bracket
-    ensures { result ≡ bracket_by (option_of low) (option_of high) len }
+fn bracket_by(low: Option<u32>, high: Option<u32>, len: u32) -> Bracket
+    ensures { result ≡ bracket_by low high len }
 {
-    let Crossing::First(from) = low else {
+    let Some(from) = low else {
         return Bracket::Beyond(len);
     };
-    let Crossing::First(to) = high else {
+    let Some(to) = high else {
         return Bracket::Open(from);
     };
     if from == to {
@@ -98,29 +80,29 @@ pub fn find_bracket(pmf: &[u64], state_count: u32, percent: u32) -> Bracket
 }
 
 // The bracket of a percentile by the table's chances and number of states: refused by 12, 13, 14 or 15, the first that applies.
-pub fn percentile_bracket(pmf: &[u64], state_count: u32, percent: u32) -> BracketAnswer
+pub fn percentile_bracket(pmf: &[u64], state_count: u32, percent: u32) -> Result<Bracket, Refusal>
     ensures { result ≡ bracket_of pmf.now state_count percent }
 {
-    if pmf.len() < BracketAnswer::MIN_LENGTH {
-        return refused(Refusal::LIST_LENGTH);
+    if pmf.len() < Bracket::MIN_LENGTH {
+        return Err(Refusal::ListLength);
     }
-    if pmf.len() > BracketAnswer::MAX_LENGTH {
-        return refused(Refusal::LIST_LENGTH);
+    if pmf.len() > Bracket::MAX_LENGTH {
+        return Err(Refusal::ListLength);
     }
-    if state_count < BracketAnswer::MIN_STATES {
-        return refused(Refusal::STATE_COUNT);
+    if state_count < Bracket::MIN_STATES {
+        return Err(Refusal::StateCount);
     }
-    if state_count > BracketAnswer::MAX_STATES {
-        return refused(Refusal::STATE_COUNT);
+    if state_count > Bracket::MAX_STATES {
+        return Err(Refusal::StateCount);
     }
-    if percent < BracketAnswer::MIN_PERCENT {
-        return refused(Refusal::PERCENT);
+    if percent < Bracket::MIN_PERCENT {
+        return Err(Refusal::Percent);
     }
-    if percent > BracketAnswer::MAX_PERCENT {
-        return refused(Refusal::PERCENT);
+    if percent > Bracket::MAX_PERCENT {
+        return Err(Refusal::Percent);
     }
     if !sum_fits(pmf) {
-        return refused(Refusal::TOTAL);
+        return Err(Refusal::Total);
     }
-    BracketAnswer::Accepted(find_bracket(pmf, state_count, percent))
+    Ok(find_bracket(pmf, state_count, percent))
 }

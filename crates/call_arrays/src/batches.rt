@@ -2,33 +2,40 @@
 ghost use Rattle.std.specs.Prelude.{◌≡◌};
 ghost use Rattle.codes.specs.Codes.{check_code};
 ghost use Rattle.call_arrays.specs.StepArrays.{state_as, points_as};
-ghost use Rattle.call_arrays.specs.BatchArrays.{batch_checked, mask_as, batch_as};
+ghost use Rattle.call_arrays.specs.BatchArrays.{batch_checked, mask_as, number_as, batch_as};
 
-use batch::{Batch, LastPoint};
+use batch::Batch;
 use codes::code;
 use codes::sizes::BATCH_ANSWER;
+use rules::Refusal;
 
 // The refusal of a batch that took nothing, else 0.
 pub fn batch_code(found: Batch) -> u64
     ensures { result ≡ check_code (batch_checked found) }
 {
-    let refusal = found.refusal;
     if found.taken > 0 {
         return 0;
     }
-    if refusal.number == 0 {
-        return 0;
+    match found.refusal {
+        Some(refusal) => code(refusal),
+        None => 0,
     }
-    code(refusal)
 }
 
 // The mask of the last reading, 0 for quiet.
-fn last_mask(last: LastPoint) -> u32
-    ensures { result ≡ mask_as last }
+fn mask(signal: Option<u32>) -> u32
+    ensures { result ≡ mask_as signal }
 {
-    match last {
-        LastPoint::Quiet => 0,
-        LastPoint::Signal(mask) => mask,
+    signal.unwrap_or(0)
+}
+
+// The number of the refusal, 0 for none.
+fn number(refusal: Option<Refusal>) -> u32
+    ensures { result ≡ number_as refusal }
+{
+    match refusal {
+        Some(x) => x.number(),
+        None => 0,
     }
 }
 
@@ -43,13 +50,10 @@ pub fn write_batch(
     ensures points_after { points.new ≡ points_as found.next points.old }
     ensures answer_after { answer.new ≡ batch_as found answer.old }
 {
-    let next = found.next;
-    let refusal = found.refusal;
-    let last = found.last;
-    state[0] = next.state;
-    points[0] = next.count;
+    state[0] = found.next.state;
+    points[0] = found.next.count;
     answer[0] = found.taken as u64;
-    answer[1] = found.count as u64;
-    answer[2] = last_mask(last) as u64;
-    answer[3] = refusal.number as u64;
+    answer[1] = u64::from(found.count);
+    answer[2] = u64::from(mask(found.signal));
+    answer[3] = u64::from(number(found.refusal));
 }

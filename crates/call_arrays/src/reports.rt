@@ -1,18 +1,19 @@
 // A report's answer as a code.
 ghost use Rattle.std.specs.Prelude.{◌≡◌};
+ghost use Rattle.rules.specs.Check.{checked};
 ghost use Rattle.codes.specs.Codes.{check_code};
-ghost use Rattle.call_arrays.specs.ReportArrays.{answer_checked, answer_count};
+ghost use Rattle.call_arrays.specs.ReportArrays.{answer_count};
 
 use codes::code;
-use write::ReportAnswer;
+use rules::Refusal;
 
 // The code of a report's answer, and its number of bytes in `bytes`.
-pub fn report_code(answer: ReportAnswer, bytes: &mut [u64; 1]) -> u64
-    ensures { (result ≡ check_code (answer_checked answer)) × (bytes.new ≡ answer_count answer bytes.old) }
+pub fn report_code(answer: Result<usize, Refusal>, bytes: &mut [u64; 1]) -> u64
+    ensures { (result ≡ check_code (checked answer)) × (bytes.new ≡ answer_count answer bytes.old) }
 {
     match answer {
-        ReportAnswer::Refused(r) => code(r),
-        ReportAnswer::Written(n) => {
+        Err(r) => code(r),
+        Ok(n) => {
             bytes[0] = n as u64;
             0
         }

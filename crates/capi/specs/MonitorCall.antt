@@ -1,28 +1,23 @@
 -- TO BELIEVE: calls of the zone and of the monitor's step. Definitions.
-use Rattle.std.specs.Prelude.{ℕ, ◌≡◌, List, ℤ, get_or, set}
+use Rattle.std.specs.Prelude.{ℕ, ◌≡◌, List, ℤ, get_or, set, Err, Ok, Result}
+use Rattle.rules.specs.declared.refusal.Refusal.{Refusal}
+use Rattle.rules.specs.Check.{checked, Checked}
 use Rattle.rules.specs.declared.RuleList.{RuleList}
-use Rattle.monitor.specs.declared.zone.ZoneAnswer.{ZoneAnswer}
 use Rattle.monitor.specs.declared.Monitor.{Monitor}
 use Rattle.monitor.specs.declared.Step.{Step}
 use Rattle.monitor.specs.Zone.{zone_of}
 use Rattle.monitor.specs.Step.{monitor_at, step_of}
-use Rattle.rules.specs.declared.Checked.{Checked}
 use Rattle.codes.specs.Codes.{check_code}
 use Rattle.call_arrays.specs.StepArrays.{state_as, points_as, answer_as}
 
 -- ---- the zone of a reading
 
--- whether the answer accepts
-abbrev pub zone_checked : ZoneAnswer → Checked
-zone_checked (ZoneAnswer.Zone z) = Checked.Accepted
-zone_checked (ZoneAnswer.Refused x) = Checked.Refused x
-
-abbrev pub zone_after : ZoneAnswer → List ℕ → List ℕ
-zone_after (ZoneAnswer.Zone z) zone = set zone 0 z
-zone_after (ZoneAnswer.Refused x) zone = zone
+abbrev pub zone_after : Result ℕ Refusal → List ℕ → List ℕ
+zone_after (Ok z) zone = set zone 0 z
+zone_after (Err x) zone = zone
 
 pub record ZoneCall (reading centre : ℤ) (sigma : ℕ) (z z' : List ℕ) (r : ℕ) : Type 0 where
-  pub code : r ≡ check_code (zone_checked (zone_of reading centre sigma))
+  pub code : r ≡ check_code (checked (zone_of reading centre sigma))
   pub zone : z' ≡ zone_after (zone_of reading centre sigma) z
 
 -- ---- the step
@@ -31,30 +26,24 @@ pub record ZoneCall (reading centre : ℤ) (sigma : ℕ) (z z' : List ℕ) (r : 
 abbrev pub monitor_of : List ℕ → List ℕ → Monitor
 monitor_of state points = monitor_at (get_or state 0 0) (get_or points 0 0)
 
--- whether the answer accepts
-abbrev pub step_checked : Step → Checked
-step_checked (Step.Refused x) = Checked.Refused x
-step_checked (Step.Quiet count next) = Checked.Accepted
-step_checked (Step.Signal count mask next) = Checked.Accepted
-
 -- the three arrays after a step; a refusal leaves them as they were
-abbrev pub state_after : Step → List ℕ → List ℕ
-state_after (Step.Refused x) state = state
-state_after (Step.Quiet count next) state = state_as next state
-state_after (Step.Signal count mask next) state = state_as next state
+abbrev pub state_after : Result Step Refusal → List ℕ → List ℕ
+state_after (Err x) state = state
+state_after (Ok (Step.Quiet count next)) state = state_as next state
+state_after (Ok (Step.Signal count mask next)) state = state_as next state
 
-abbrev pub points_after : Step → List ℕ → List ℕ
-points_after (Step.Refused x) points = points
-points_after (Step.Quiet count next) points = points_as next points
-points_after (Step.Signal count mask next) points = points_as next points
+abbrev pub points_after : Result Step Refusal → List ℕ → List ℕ
+points_after (Err x) points = points
+points_after (Ok (Step.Quiet count next)) points = points_as next points
+points_after (Ok (Step.Signal count mask next)) points = points_as next points
 
-abbrev pub answer_after : Step → List ℕ → List ℕ
-answer_after (Step.Refused x) answer = answer
-answer_after (Step.Quiet count next) answer = answer_as count 0 answer
-answer_after (Step.Signal count mask next) answer = answer_as count mask answer
+abbrev pub answer_after : Result Step Refusal → List ℕ → List ℕ
+answer_after (Err x) answer = answer
+answer_after (Ok (Step.Quiet count next)) answer = answer_as count 0 answer
+answer_after (Ok (Step.Signal count mask next)) answer = answer_as count mask answer
 
 pub record StepCall (l : RuleList) (m : Monitor) (z : ℕ) (s p a s' p' a' : List ℕ) (r : ℕ) : Type 0 where
-  pub code : r ≡ check_code (step_checked (step_of l m z))
+  pub code : r ≡ check_code (checked (step_of l m z))
   pub state : s' ≡ state_after (step_of l m z) s
   pub points : p' ≡ points_after (step_of l m z) p
   pub answer : a' ≡ answer_after (step_of l m z) a

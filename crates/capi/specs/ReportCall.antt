@@ -1,12 +1,12 @@
 -- TO BELIEVE: a call of a program's report. Definitions.
-use Rattle.std.specs.Prelude.{ℕ, ◌≡◌, List, length, set}
+use Rattle.std.specs.Prelude.{ℕ, ◌≡◌, List, length, set, Err, Ok}
+use Rattle.rules.specs.Check.{Checked}
 use Rattle.write.specs.Printed.{Printed, lines, refused_by, report_of}
-use Rattle.rules.specs.declared.Checked.{Checked}
 use Rattle.codes.specs.Codes.{check_code}
 
 abbrev pub printed_checked : Printed → Checked
-printed_checked (lines bytes) = Checked.Accepted
-printed_checked (refused_by x) = Checked.Refused x
+printed_checked (lines bytes) = Ok tt
+printed_checked (refused_by x) = Err x
 
 -- what the count's array of one number then holds: how many bytes; a refusal leaves it as it was
 abbrev pub count_after : Printed → List ℕ → List ℕ

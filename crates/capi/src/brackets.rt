@@ -2,7 +2,6 @@
 ghost use Rattle.std.specs.Prelude.{◌≡◌};
 ghost use Rattle.capi.specs.BracketCall.{BracketCalled};
 
-use bracket::BracketAnswer;
 use call_arrays::write_bracket;
 use codes::code;
 use codes::sizes::BRACKET_ANSWER;
@@ -17,10 +16,9 @@ pub fn catrovindy_bracket(
 ) -> u64
     ensures { BracketCalled pmf.now state_count percent answer.old answer.new result }
 {
-    let found = bracket::percentile_bracket(pmf, state_count, percent);
-    match found {
-        BracketAnswer::Refused(r) => code(r),
-        BracketAnswer::Accepted(found) => {
+    match bracket::percentile_bracket(pmf, state_count, percent) {
+        Err(r) => code(r),
+        Ok(found) => {
             write_bracket(answer, found);
             0
         }

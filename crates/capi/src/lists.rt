@@ -7,7 +7,6 @@ ghost use Rattle.capi.specs.ListCall.{version};
 
 use codes::sizes::SLOTS;
 use codes::{code, list_of};
-use rules::Checked;
 
 // Version 0.8.0: ten thousand times the first number, a hundred times the second, and the third.
 pub const VERSION: u32 = 800;
@@ -16,10 +15,9 @@ pub const VERSION: u32 = 800;
 pub fn catrovindy_check(slots: &[u32; SLOTS], count: u32) -> u64
     ensures { result ≡ check_code (check_of (slot_list slots.now count)) }
 {
-    let checked = list_of(*slots, count).check();
-    match checked {
-        Checked::Accepted => 0,
-        Checked::Refused(r) => code(r),
+    match list_of(*slots, count).check() {
+        Ok(()) => 0,
+        Err(r) => code(r),
     }
 }
 

@@ -6,7 +6,7 @@ ghost use Rattle.capi.specs.MonitorCall.{monitor_of, ZoneCall, StepCall};
 use call_arrays::write_step;
 use codes::sizes::{SLOTS, STEP_ANSWER};
 use codes::{code, list_of};
-use monitor::zone::{ZoneAnswer, zone_of};
+use monitor::zone::zone_of;
 use monitor::{Monitor, Step};
 
 // The zone of a reading: `monitor::zone::zone_of`. Answers 0 and writes the zone; or answers the refusal and alters nothing.
@@ -14,8 +14,8 @@ pub fn catrovindy_zone(reading: i32, centre: i32, sigma: u32, zone: &mut [u32; 1
     ensures { ZoneCall reading centre sigma zone.old zone.new result }
 {
     match zone_of(reading, centre, sigma) {
-        ZoneAnswer::Refused(r) => code(r),
-        ZoneAnswer::Zone(z) => {
+        Err(r) => code(r),
+        Ok(z) => {
             zone[0] = z;
             0
         }
@@ -42,12 +42,12 @@ pub fn catrovindy_step(
         count: counted,
     };
     match given.step(list_of(*slots, count), zone) {
-        Step::Refused(r) => code(r),
-        Step::Quiet { count, next } => {
+        Err(r) => code(r),
+        Ok(Step::Quiet { count, next }) => {
             write_step(state, points, answer, next, count, 0);
             0
         }
-        Step::Signal { count, mask, next } => {
+        Ok(Step::Signal { count, mask, next }) => {
             write_step(state, points, answer, next, count, mask);
             0
         }

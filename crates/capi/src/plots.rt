@@ -5,7 +5,6 @@ ghost use Rattle.capi.specs.PlotCall.{PlotCalled};
 
 use codes::sizes::SLOTS;
 use codes::{code, list_of};
-use plot::BoxPlotAnswer;
 use plot_arrays::{KINDS, VALUES, write_kinds, write_values};
 use rules::ZONES;
 
@@ -27,10 +26,9 @@ pub fn catrovindy_plot(
         kinds.old values.old
         pmf.new survival.new kinds.new values.new result }
 {
-    let answer = plot::box_plot(list_of(*slots, count), *weights, horizon, pmf, survival);
-    match answer {
-        BoxPlotAnswer::Refused(r) => code(r),
-        BoxPlotAnswer::Accepted(found) => {
+    match plot::box_plot(list_of(*slots, count), *weights, horizon, pmf, survival) {
+        Err(r) => code(r),
+        Ok(found) => {
             write_kinds(kinds, found);
             write_values(values, found);
             0

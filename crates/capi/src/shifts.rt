@@ -3,16 +3,14 @@ ghost use Rattle.capi.specs.ShiftCall.{ShiftCall};
 
 use codes::code;
 use rules::{ZONES, weight_array};
-use shift::ShiftAnswer;
 
 // The weights for a shift: `shift::shift_weights`. Answers 0 and writes the weights from zone 0 on; or answers the refusal and alters nothing.
 pub fn catrovindy_shift_weights(shift: i32, weights: &mut [u32; ZONES]) -> u64
     ensures { ShiftCall shift weights.old weights.new result }
 {
-    let answer = shift::shift_weights(shift);
-    match answer {
-        ShiftAnswer::Refused(r) => code(r),
-        ShiftAnswer::Accepted(w) => {
+    match shift::shift_weights(shift) {
+        Err(r) => code(r),
+        Ok(w) => {
             *weights = weight_array(w);
             0
         }

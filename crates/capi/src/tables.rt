@@ -6,7 +6,6 @@ ghost use Rattle.capi.specs.TableCall.{TableCalled};
 use codes::sizes::{FIGURES, SLOTS};
 use codes::{code, list_of};
 use rules::ZONES;
-use table::TableAnswer;
 
 // The run-length table: `table::run_length_table`. Answers 0 and writes N, left at the horizon and the cut mean's whole part and fraction
 // to `figures`; or answers the refusal and alters nothing.
@@ -22,10 +21,9 @@ pub fn catrovindy_table(
     ensures { TableCalled (table_call (slot_list slots.now count) weights.now horizon pmf.old survival.old)
         figures.old pmf.new survival.new figures.new result }
 {
-    let answer = table::run_length_table(list_of(*slots, count), *weights, horizon, pmf, survival);
-    match answer {
-        TableAnswer::Refused(r) => code(r),
-        TableAnswer::Accepted(f) => {
+    match table::run_length_table(list_of(*slots, count), *weights, horizon, pmf, survival) {
+        Err(r) => code(r),
+        Ok(f) => {
             figures[0] = f.state_count as u64;
             figures[1] = f.survival;
             figures[2] = f.mean_whole;

@@ -1,10 +1,9 @@
 -- CLAIMS: the plot record, of what the box plot operation's contract is an equation with: nothing is asked but an accepted call.
-use Rattle.std.specs.Prelude.{◌≡◌, true, false, ◌*◌, ◌^◌, ◌≤◌}
+use Rattle.std.specs.Prelude.{◌≡◌, true, false, ◌*◌, ◌^◌, ◌≤◌, Ok}
 use Rattle.std.specs.Float.Ieee.Exact.{HasValue}
 use Rattle.runlength.specs.Scale.{weight_total}
 use Rattle.table.specs.Table.{TableCall, rules_of}
 use Rattle.plot.specs.declared.PlotRecord.{PlotRecord}
-use Rattle.plot.specs.declared.BoxPlotAnswer.{BoxPlotAnswer}
 use Rattle.plot.specs.MeanBounds.{parts_per_one}
 use Rattle.plot.specs.Item.{point_of}
 use Rattle.plot.specs.Plot.{box_plot_of}
@@ -15,7 +14,7 @@ use Rattle.claims.proofs.BoxPlotLaws.{difference_of}
 use Rattle.claims.proofs.BoxPlotLaws.{items_contain as items_contain_proved, quartiles_shown as quartiles_shown_proved, mean_values as mean_values_proved}
 use Rattle.claims.proofs.BoxPlotLaws.{mean_within as mean_within_proved}
 
-module _ (t : TableCall) (r : PlotRecord) (accepted : (box_plot_of t).answer ≡ BoxPlotAnswer.Accepted r) where
+module _ (t : TableCall) (r : PlotRecord) (accepted : (box_plot_of t).answer ≡ Ok r) where
   -- Each item is of the bracket of exactly these chances, and contains its true percentile.
   pub items_contain : ItemOf t 5 r.p5 × ItemOf t 25 r.p25 × ItemOf t 50 r.p50 × ItemOf t 75 r.p75 × ItemOf t 95 r.p95
   items_contain = items_contain_proved t r accepted

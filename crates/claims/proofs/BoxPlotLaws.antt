@@ -1,5 +1,5 @@
 -- An accepted plot record, by the table and the brackets that it is made of. Laws.
-use Rattle.std.specs.Prelude.{◌≡◌, Bool, true, false, ℕ, ◌*◌, ◌^◌, ◌≤◌}
+use Rattle.std.specs.Prelude.{◌≡◌, Bool, true, false, ℕ, ◌*◌, ◌^◌, ◌≤◌, Ok}
 use Rattle.std.proofs.Math.Path.{refl, ap}
 use Rattle.std.proofs.Common.{sym, subst, ◌∙◌, mul-le-mul_right, arith}
 use Rattle.std.specs.Float.Ieee.Exact.{HasValue}
@@ -20,7 +20,6 @@ use Rattle.summary.specs.AcceptedSummary.{AcceptedSummary}
 use Rattle.summary.proofs.SummaryLaws.{accepted_summary}
 use Rattle.plot.specs.declared.PlotItem.{PlotItem}
 use Rattle.plot.specs.declared.PlotRecord.{PlotRecord}
-use Rattle.plot.specs.declared.BoxPlotAnswer.{BoxPlotAnswer}
 use Rattle.plot.specs.MeanBounds.{parts_per_one, units_per_part, round_down, round_up}
 use Rattle.plot.specs.MeanBoundsLaws.{down_below, up_above}
 use Rattle.plot.specs.Item.{point_of}
@@ -57,7 +56,7 @@ from_above u e b m = above (round_up u) u e b (up_above u) m
     above : (high u e b : ℕ) → u ≤ high * units_per_part → e * units_per_one ≤ u * b → e * parts_per_one ≤ high * b
     above high u e b k m = omega (arith, mul-le-mul_right b k)
 
-module _ (t : TableCall) (r : PlotRecord) (accepted : (box_plot_of t).answer ≡ BoxPlotAnswer.Accepted r) where
+module _ (t : TableCall) (r : PlotRecord) (accepted : (box_plot_of t).answer ≡ Ok r) where
   made : PlotOf t r
   made = plot_of t r accepted
 

@@ -1,15 +1,13 @@
 -- CLAIMS: readings on the centre line. C0 is exactly t = 0, and under the ready lists such a point counts for neither
 -- side.
-use Rattle.std.specs.Prelude.{ℕ, ◌+◌, ◌≤◌, ◌≡◌, refl, true, List, ℤ, take}
+use Rattle.std.specs.Prelude.{ℕ, ◌+◌, ◌≤◌, ◌≡◌, refl, true, List, ℤ, take, Ok}
 use Rattle.std.proofs.Common.{ap, ◌∙◌, arith}
 use Rattle.std.proofs.Math.IntN.{+ℤ_invr}
 use Rattle.rules.specs.declared.Rule.{Rule}
 use Rattle.rules.specs.declared.RuleList.{RuleList}
-use Rattle.rules.specs.declared.Checked.TheVariants.{Accepted}
 use Rattle.rules.specs.Check.{within, rules_from, active_rules, check_rules, check_of}
 use Rattle.rules.specs.Ready.{rule_of, western_electric, duncan_list}
 use Rattle.rules.specs.ZoneSet.{in_zone_set}
-use Rattle.monitor.specs.declared.zone.ZoneAnswer.TheVariants.{Zone}
 use Rattle.monitor.specs.Zone.{min_sigma, max_sigma, zone_c0, zone_at, zone_of}
 use Rattle.monitor.specs.ZoneLaws.{zone_fits}
 use Rattle.monitor.specs.Step.{fresh_monitor}
@@ -22,10 +20,10 @@ use Rattle.claims.proofs.CentreLineLaws.{only_on_centre as only_on_centre_proved
 
 module _ (sigma : ℕ) (fits : within min_sigma max_sigma sigma ≡ true) where
   -- A reading that equals the centre is in C0, and no other reading is.
-  pub on_centre_lem : (c : ℤ) → zone_of c c sigma ≡ Zone zone_c0
-  on_centre_lem c = zone_fits c c sigma fits ∙ ap (λ (t : ℤ). Zone (zone_at t sigma)) (+ℤ_invr c)
+  pub on_centre_lem : (c : ℤ) → zone_of c c sigma ≡ Ok zone_c0
+  on_centre_lem c = zone_fits c c sigma fits ∙ ap (λ (t : ℤ). Ok (zone_at t sigma)) (+ℤ_invr c)
 
-  pub only_on_centre : (r c : ℤ) → zone_of r c sigma ≡ Zone zone_c0 → r ≡ c
+  pub only_on_centre : (r c : ℤ) → zone_of r c sigma ≡ Ok zone_c0 → r ≡ c
   only_on_centre = only_on_centre_proved sigma fits
 
 -- ---- the ready lists: C0 is in no set of theirs
@@ -56,7 +54,7 @@ eight_above = in_a_row_off_centre (rule_of 8 8 14) refl refl
 pub eight_below : (row : List ℕ) → rule_holds row (rule_of 8 8 112) ≡ true → on_centre (take 8 row) ≡ 0
 eight_below = in_a_row_off_centre (rule_of 8 8 112) refl refl
 
-module _ (l : RuleList) (a : check_of l ≡ Accepted) (off : OffCentre (active_rules l)) where
+module _ (l : RuleList) (a : check_of l ≡ Ok tt) (off : OffCentre (active_rules l)) where
   -- In every list of calls with such a rule list, from a fresh monitor, no point on the centre line signals.
   pub quiet_on_centre : (zs : List ℕ) → QuietOnCentre zs (monitor_answers l fresh_monitor zs)
   quiet_on_centre = quiet_on_centre_proved l a off

@@ -1,6 +1,6 @@
 -- Rules that leave out C0, over rows with points on the centre line. Laws.
 use Prim.Native.Nat.{ℕ, zero, suc, ◌+◌, ◌≤◌}
-use Rattle.std.specs.Prelude.{◌≡◌, Bool, cond, ltb, ℤ, ◌+ℤ◌, ◌-ℤ◌, take}
+use Rattle.std.specs.Prelude.{◌≡◌, Bool, cond, ltb, ℤ, ◌+ℤ◌, ◌-ℤ◌, take, Ok}
 use Rattle.std.proofs.Math.Path.{refl, ap}
 use Rattle.std.proofs.Common.{sym, ◌∙◌, length-take, leb-true, leb-false, eqb-true}
 use Rattle.std.proofs.Math.Bool.{true, false}
@@ -12,14 +12,12 @@ use Rattle.std.proofs.Math.ListN.{length}
 use Rattle.std.proofs.lemmas.Bool.{lt-leb}
 use Rattle.rules.specs.declared.Rule.{Rule}
 use Rattle.rules.specs.declared.RuleList.{RuleList}
-use Rattle.rules.specs.declared.Checked.TheVariants.{Accepted}
 use Rattle.rules.specs.Bounds.{max_number}
 use Rattle.rules.specs.Check.{within, active_rules, check_of}
 use Rattle.rules.proofs.CheckLaws.{accepted}
 use Rattle.rules.specs.Mask.{mask_of}
-use Rattle.rules.specs.Refusal.{bad_count}
+use Rattle.rules.specs.Refusal.{number_of, bad_count}
 use Rattle.rules.specs.ZoneSet.{in_zone_set}
-use Rattle.monitor.specs.declared.zone.ZoneAnswer.TheVariants.{Zone}
 use Rattle.monitor.specs.Zone.{min_sigma, max_sigma, zone_c0, zone_at, zone_of}
 use Rattle.monitor.specs.ZoneLaws.{zone_fits, centre_alone}
 use Rattle.monitor.specs.Step.{fresh_monitor}
@@ -36,10 +34,10 @@ use Rattle.claims.specs.Centre.{OffCentre, on_centre, QuietOnCentre}
 -- ---- the zone of a reading: C0 exactly where t = 0
 
 module _ (sigma : ℕ) (fits : within min_sigma max_sigma sigma ≡ true) where
-  zone_number : (r c : ℤ) {z : ℕ} → zone_of r c sigma ≡ Zone z → zone_at (r -ℤ c) sigma ≡ z
+  zone_number : (r c : ℤ) {z : ℕ} → zone_of r c sigma ≡ Ok z → zone_at (r -ℤ c) sigma ≡ z
   zone_number r c e = let q = sym (zone_fits r c sigma fits) ∙ e in cc
 
-  pub only_on_centre : (r c : ℤ) → zone_of r c sigma ≡ Zone zone_c0 → r ≡ c
+  pub only_on_centre : (r c : ℤ) → zone_of r c sigma ≡ Ok zone_c0 → r ≡ c
   only_on_centre r c e =
       sym (-ℤ-+ℤ_cancel r c) ∙ ap (λ (t : ℤ). t +ℤ c) (centre_alone (r -ℤ c) sigma (zone_number r c e)) ∙ +ℤ_idl c
 
@@ -97,11 +95,11 @@ unfolding chart_step
 centre_step rs off row e = rw (centre_mask rs off row e) (go (ltb (length row) max_number))
   where
     go : (b : Bool)
-        → is_signal (cond b (chart_by 0 (zone_c0 ∷ row)) (charted (refused bad_count.number) row)).answer ≡ false
+        → is_signal (cond b (chart_by 0 (zone_c0 ∷ row)) (charted (refused (number_of bad_count)) row)).answer ≡ false
     go true = refl
     go false = refl
 
-module _ (l : RuleList) (a : check_of l ≡ Accepted) (off : OffCentre (active_rules l)) where
+module _ (l : RuleList) (a : check_of l ≡ Ok tt) (off : OffCentre (active_rules l)) where
   quiet_from : (zs row : List ℕ) → row_mask (active_rules l) row ≡ 0
       → QuietOnCentre zs (chart_answers (active_rules l) row zs)
   unfolding chart_answers QuietOnCentre

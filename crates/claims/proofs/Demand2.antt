@@ -1,8 +1,7 @@
 -- CLAIMS: demand 2, of what the operations' contracts are equations with and for every input: nothing is asked but an accepted call.
-use Rattle.std.specs.Prelude.{◌≡◌, true, List, [], ◌↔◌, ℕ, suc, ◌/◌, ◌%◌, ◌^◌, ◌≤◌, ◌<◌, length, get_or}
+use Rattle.std.specs.Prelude.{◌≡◌, true, List, [], ◌↔◌, ℕ, suc, ◌/◌, ◌%◌, ◌^◌, ◌≤◌, ◌<◌, length, get_or, Ok}
 use Rattle.std.proofs.Common.{◌∙◌}
 use Rattle.rules.specs.declared.RuleList.{RuleList}
-use Rattle.rules.specs.declared.Checked.TheVariants.{Accepted}
 use Rattle.rules.specs.Check.{no_rule, active_rules, check_of}
 use Rattle.rules.specs.declared.Rule.{Rule}
 use Rattle.rules.specs.Mask.{bit}
@@ -20,7 +19,6 @@ use Rattle.chain.specs.TableChain.{explored_count, state_count}
 use Rattle.chain.specs.ByState.{alike_states}
 use Rattle.chain.specs.FuturesLaws.{alike_exactly}
 use Rattle.table.specs.declared.TableFigures.{TableFigures}
-use Rattle.table.specs.declared.TableAnswer.{TableAnswer}
 use Rattle.table.specs.Table.{TableCall, rules_of, table_of, pmf_of, mean_of}
 use Rattle.table.specs.AcceptedTable.{AcceptedTable}
 use Rattle.table.proofs.AcceptedTableLaws.{accepted_table}
@@ -35,7 +33,7 @@ use Rattle.claims.proofs.ByRowLaws.{counts_rows, alike_rows_exactly, row_chance_
 
 -- For every accepted rule list and every list of calls: each accepted call is a signal exactly when some rule's T(k,m,Z) holds over the points
 -- since the chart was cleared, this one among them; bit i of its mask is set exactly when rule i's does; no bit beyond the rules is ever set.
-pub monitor_names : (l : RuleList) → check_of l ≡ Accepted → (zs : List ℕ) → EachAnswered (active_rules l) [] zs (monitor_answers l fresh_monitor zs)
+pub monitor_names : (l : RuleList) → check_of l ≡ Ok tt → (zs : List ℕ) → EachAnswered (active_rules l) [] zs (monitor_answers l fresh_monitor zs)
 monitor_names l accepted zs = rw (monitor_agrees l accepted zs) (chart_answered (active_rules l) [] zs)
 
 -- Bit i of the mask is set exactly when rule i's T(k,m,Z) holds over the row.
@@ -44,7 +42,7 @@ mask_names_rules = mask_names_rules_proved
 
 -- ---- the table: every figure of an accepted call is that of the round-down steps over rows of the plain chart, one of each future
 
-module _ (t : TableCall) (f : TableFigures) (accepted : (table_of t).answer ≡ TableAnswer.Accepted f) where
+module _ (t : TableCall) (f : TableFigures) (accepted : (table_of t).answer ≡ Ok f) where
   call : AcceptedTable t f
   call = accepted_table t f accepted
 

@@ -1,10 +1,9 @@
 -- CLAIMS: demand 3, of what the operations' contracts are equations with and for every input: nothing is asked but an accepted call.
-use Rattle.std.specs.Prelude.{◌≡◌, Bool, List, [], ℕ, suc, ◌+◌, ◌-◌, ◌*◌, ◌/◌, ◌^◌, ◌≤◌, ◌<◌, T, length}
+use Rattle.std.specs.Prelude.{◌≡◌, Bool, List, [], ℕ, suc, ◌+◌, ◌-◌, ◌*◌, ◌/◌, ◌^◌, ◌≤◌, ◌<◌, T, length, Ok}
 use Rattle.std.proofs.Math.Path.{ap}
 use Rattle.std.proofs.Common.{◌∙◌, arith}
 use Rattle.std.proofs.Math.Dec.{leb}
 use Rattle.rules.specs.declared.RuleList.{RuleList}
-use Rattle.rules.specs.declared.Checked.TheVariants.{Accepted}
 use Rattle.rules.specs.Bounds.{zone_count, max_number}
 use Rattle.rules.specs.Check.{active_rules, check_of}
 use Rattle.runlength.specs.Scale.{max_horizon, weight_total, units_per_one, percents_per_one}
@@ -23,7 +22,6 @@ use Rattle.monitor.specs.Calls.{monitor_answers, refusal_number, Said, EachAnswe
 use Rattle.monitor.proofs.AgreementLaws.{no_call_gets_5, no_refused_call as no_refused_call_proved}
 use Rattle.monitor.proofs.AgreementLaws.{monitor_agrees as monitor_agrees_proved}
 use Rattle.table.specs.declared.TableFigures.{TableFigures}
-use Rattle.table.specs.declared.TableAnswer.{TableAnswer}
 use Rattle.table.specs.Table.{TableCall, rules_of, chain_of, table_of, pmf_of, mean_of}
 use Rattle.table.specs.AcceptedTable.{AcceptedTable}
 use Rattle.table.proofs.AcceptedTableLaws.{accepted_table}
@@ -40,7 +38,7 @@ use Rattle.claims.proofs.MonitorLaws.{monitor_free}
 
 -- ---- the monitor and the plain chart, for every accepted rule list
 
-module _ (l : RuleList) (accepted : check_of l ≡ Accepted) where
+module _ (l : RuleList) (accepted : check_of l ≡ Ok tt) where
   -- For every list of monitor calls, from a fresh monitor and refused calls included, the answers are those of the plain chart: refusal
   -- number, quiet or signal, count and mask.
   pub monitor_agrees : (zs : List ℕ) → monitor_answers l fresh_monitor zs ≡ chart_answers (active_rules l) [] zs
@@ -82,7 +80,7 @@ module _ (l : RuleList) (accepted : check_of l ≡ Accepted) where
 
 -- ---- the table and the bracket, for every accepted call of the table operation
 
-module _ (t : TableCall) (f : TableFigures) (accepted : (table_of t).answer ≡ TableAnswer.Accepted f) where
+module _ (t : TableCall) (f : TableFigures) (accepted : (table_of t).answer ≡ Ok f) where
   call : AcceptedTable t f
   call = accepted_table t f accepted
 

@@ -1,6 +1,6 @@
 -- CLAIMS: the exact sum draws on all eight zones; and where C0 has weight 0, the exact figures are those of the seven others, and the table's, to the
 -- last unit, those of the states, among those that differ, that the seven others meet.
-use Rattle.std.specs.Prelude.{ℕ, suc, ◌*◌, ◌≤◌, ◌<◌, ◌≡◌}
+use Rattle.std.specs.Prelude.{ℕ, suc, ◌*◌, ◌≤◌, ◌<◌, ◌≡◌, Ok}
 use Rattle.std.proofs.Math.Path.{refl, ap}
 use Rattle.std.proofs.Common.{sym, ◌∙◌}
 use mathlib.Core.List.{List, [], ◌∷◌, ◌++◌, append_assoc, append-nil}
@@ -13,7 +13,6 @@ use Rattle.runlength.specs.SequenceLaws.{sequences_cong_all}
 use Rattle.runlength.specs.Chain.{pmf, survival, restricted_mean}
 use Rattle.monitor.specs.Zone.{zone_c0}
 use Rattle.table.specs.declared.TableFigures.{TableFigures}
-use Rattle.table.specs.declared.TableAnswer.{TableAnswer}
 use Rattle.table.specs.Table.{TableCall, table_of, mean_of}
 use Rattle.claims.specs.Exact.{says_signal, first_signal, free_answers, exact_sum, exact_mean}
 use Rattle.claims.specs.Centre.{each_zone, adds_to_sum, adds_to_mean, drawn}
@@ -58,7 +57,7 @@ module _ (rs : List Rule) (w : List ℕ) (weightless : at w zone_c0 ≡ 0) where
       (λ p q. let k = first_signal (free_answers rs [] (p ++ (zone_c0 ∷ q))) in
       ap (λ x. x * k) (no_product (at w) zone_c0 weightless p q) ∙ zero-mul k)
 
-module _ (t : TableCall) (f : TableFigures) (accepted : (table_of t).answer ≡ TableAnswer.Accepted f)
+module _ (t : TableCall) (f : TableFigures) (accepted : (table_of t).answer ≡ Ok f)
     (weightless : at t.weights zone_c0 ≡ 0) where
   -- Every chance of an accepted table, all that is left and the cut mean are, to the last unit, those of the round-down
   -- steps over the states that the seven other zones meet, among those that differ by all eight. N alone, and what goes by

@@ -1,5 +1,5 @@
 -- A zone whose sequences add nothing may be left out; so may C0 where it has weight 0, in the exact figures and in the table's. Laws.
-use Rattle.std.specs.Prelude.{ℕ, zero, suc, ◌≤◌, ◌<◌, ◌≡◌, refl, List, [], ◌∷◌, ◌++◌}
+use Rattle.std.specs.Prelude.{ℕ, zero, suc, ◌≤◌, ◌<◌, ◌≡◌, refl, List, [], ◌∷◌, ◌++◌, Ok}
 use Rattle.std.proofs.Common.{◌∙◌, arith, zero-mul, mul-zero}
 use Rattle.rules.specs.Bounds.{zone_count}
 use Rattle.runlength.specs.Sum.{sum, sum_sequences, at}
@@ -9,7 +9,6 @@ use Rattle.runlength.specs.Automaton.{product}
 use Rattle.runlength.specs.Chain.{pmf, survival, restricted_mean}
 use Rattle.monitor.specs.Zone.{zone_c0}
 use Rattle.table.specs.declared.TableFigures.{TableFigures}
-use Rattle.table.specs.declared.TableAnswer.{TableAnswer}
 use Rattle.chain.specs.TableChain.{table_automaton, table_chain}
 use Rattle.table.specs.Table.{TableCall, rules_of, table_of, mean_of}
 use Rattle.table.specs.AcceptedTable.{AcceptedTable}
@@ -40,7 +39,7 @@ unfolding product
 no_product weight z e [] q = rw e (zero-mul (product weight q))
 no_product weight z e (y ∷ p) q = rw (no_product weight z e p q) (mul-zero (weight y))
 
-module _ (t : TableCall) (f : TableFigures) (accepted : (table_of t).answer ≡ TableAnswer.Accepted f)
+module _ (t : TableCall) (f : TableFigures) (accepted : (table_of t).answer ≡ Ok f)
     (weightless : at t.weights zone_c0 ≡ 0) where
   call : AcceptedTable t f
   call = accepted_table t f accepted

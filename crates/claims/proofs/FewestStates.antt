@@ -1,6 +1,6 @@
 -- CLAIMS: of an accepted call, the chain that the table runs on first signals on the same sequences as the plain chart; it has N states; and no
 -- chart moved by zones alone that first signals on these sequences has fewer, whatever its states are.
-use Rattle.std.specs.Prelude.{◌≤◌, ◌≡◌, List, [], length}
+use Rattle.std.specs.Prelude.{◌≤◌, ◌≡◌, List, [], length, Ok}
 use Rattle.runlength.specs.Automaton.{Automaton}
 use Rattle.runlength.specs.Sum.{tab}
 use Rattle.runlength.specs.TabLaws.{length_tab}
@@ -9,7 +9,6 @@ use Rattle.runlength.proofs.FutureLaws.{future_first, first_future}
 use Rattle.runlength.specs.Fewest.{HoldsStates}
 use Rattle.states.specs.Automata.{reference_automaton}
 use Rattle.table.specs.declared.TableFigures.{TableFigures}
-use Rattle.table.specs.declared.TableAnswer.{TableAnswer}
 use Rattle.chain.specs.TableChain.{table_automaton}
 use Rattle.table.specs.Table.{TableCall, rules_of, table_of}
 use Rattle.chain.specs.TableChainLaws.{chain_future, chain_holds}
@@ -18,7 +17,7 @@ use Rattle.table.specs.AcceptedTable.{AcceptedTable}
 use Rattle.table.proofs.AcceptedTableLaws.{accepted_table}
 use Rattle.claims.specs.Counted.{NoneFewer}
 
-module _ (t : TableCall) (f : TableFigures) (accepted : (table_of t).answer ≡ TableAnswer.Accepted f) where
+module _ (t : TableCall) (f : TableFigures) (accepted : (table_of t).answer ≡ Ok f) where
   call : AcceptedTable t f
   call = accepted_table t f accepted
 

@@ -1,9 +1,8 @@
 -- A monitor whose calls are all taken answers as the plain chart that refuses none. Laws.
-use Rattle.std.specs.Prelude.{◌≡◌, refl, Bool, true, false, List, [], ◌∷◌, ℕ, ◌≤◌, ltb, length}
+use Rattle.std.specs.Prelude.{◌≡◌, refl, Bool, true, false, List, [], ◌∷◌, ℕ, ◌≤◌, ltb, length, Ok}
 use Rattle.std.proofs.Common.{ap, ◌∙◌}
 use Rattle.rules.specs.declared.Rule.{Rule}
 use Rattle.rules.specs.declared.RuleList.{RuleList}
-use Rattle.rules.specs.declared.Checked.TheVariants.{Accepted}
 use Rattle.rules.specs.Bounds.{zone_count, max_number}
 use Rattle.rules.specs.Check.{active_rules, check_of}
 use Rattle.monitor.specs.Step.{fresh_monitor}
@@ -36,7 +35,7 @@ unrefused_free rs (z ∷ zs) row h =
     rw (← t) (ap (λ rest. (chart_step rs row z).answer ∷ rest) r)
 
 -- a list of at most 2^32 - 1 calls whose zones all exist is answered by the monitor as by the chart that refuses none
-pub monitor_free : (l : RuleList) → check_of l ≡ Accepted → (zs : List ℕ) → AllBelow zone_count zs → length zs ≤ max_number
+pub monitor_free : (l : RuleList) → check_of l ≡ Ok tt → (zs : List ℕ) → AllBelow zone_count zs → length zs ≤ max_number
     → monitor_answers l fresh_monitor zs ≡ free_answers (active_rules l) [] zs
 monitor_free l a zs i h =
     let u : EachAnswer Said (chart_answers (active_rules l) [] zs) = rw (monitor_agrees l a zs) at (no_refused_call l a zs i h) in

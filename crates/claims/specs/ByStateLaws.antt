@@ -1,5 +1,5 @@
 -- The figures of an accepted call of the table by state, over the states that differ: the chain's own steps, one state of the monitor at a time. Laws.
-use Rattle.std.specs.Prelude.{ℕ, suc, ◌/◌, ◌<◌, ◌≡◌, true, ◌↔◌}
+use Rattle.std.specs.Prelude.{ℕ, suc, ◌/◌, ◌<◌, ◌≡◌, true, ◌↔◌, Ok}
 use Rattle.std.proofs.Common.{◌∙◌}
 use Rattle.runlength.specs.Scale.{weight_total}
 use Rattle.runlength.specs.Sum.{at, sum}
@@ -12,12 +12,11 @@ use Rattle.chain.specs.ByState.{alike_states, over_states, state_signalled, stat
 use Rattle.chain.specs.TableChainLaws.{chain_pmf, chain_survival}
 use Rattle.chain.specs.FuturesLaws.{alike_exactly}
 use Rattle.table.specs.declared.TableFigures.{TableFigures}
-use Rattle.table.specs.declared.TableAnswer.{TableAnswer}
 use Rattle.table.specs.Table.{TableCall, rules_of, table_of, mean_of}
 use Rattle.table.specs.AcceptedTable.{AcceptedTable}
 use Rattle.table.proofs.AcceptedTableLaws.{accepted_table}
 
-module _ (t : TableCall) (f : TableFigures) (accepted : (table_of t).answer ≡ TableAnswer.Accepted f) where
+module _ (t : TableCall) (f : TableFigures) (accepted : (table_of t).answer ≡ Ok f) where
   call : AcceptedTable t f
   call = accepted_table t f accepted
 

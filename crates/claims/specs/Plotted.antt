@@ -1,12 +1,11 @@
 -- TO BELIEVE: what the plot record is claimed to show: each item, the quartiles' difference, the bounds of the mean. Definitions.
-use Rattle.std.specs.Prelude.{◌≡◌, Bool, false, ℕ, ◌+◌, ◌-◌, ◌≤◌}
+use Rattle.std.specs.Prelude.{◌≡◌, Bool, false, ℕ, ◌+◌, ◌-◌, ◌≤◌, Ok}
 use Rattle.std.specs.Float.Ieee.Exact.{HasValue}
 use Rattle.runlength.specs.Chain.{restricted_mean, error_bound_of}
 use Rattle.runlength.specs.Percentile.{Percentile}
 use Rattle.chain.specs.TableChain.{state_count}
 use Rattle.table.specs.Table.{TableCall, rules_of, chain_of, pmf_of}
 use Rattle.bracket.specs.declared.Bracket.{Bracket}
-use Rattle.bracket.specs.declared.BracketAnswer.TheVariants.{Accepted}
 use Rattle.bracket.specs.Bracket.{percentile_bracket, bracket_of}
 use Rattle.bracket.specs.Contains.{BracketContains}
 use Rattle.plot.specs.declared.PlotItem.{PlotItem}
@@ -22,7 +21,7 @@ bracket_in t percent = percentile_bracket (pmf_of t) (state_count (rules_of t)) 
 -- the bracket of exactly the H chances and this N is not refused, the item's doubles are exactly its numbers, and it contains the true
 -- percentile
 pub record ItemOf (t : TableCall) (percent : ℕ) (x : PlotItem) : Type 0 where
-  pub bracket : bracket_of (pmf_of t) (state_count (rules_of t)) percent ≡ Accepted (bracket_in t percent)
+  pub bracket : bracket_of (pmf_of t) (state_count (rules_of t)) percent ≡ Ok (bracket_in t percent)
   pub shows : Shows (bracket_in t percent) x
   pub contains : BracketContains (reached (rules_of t) t.weights percent) (bracket_in t percent)
 

@@ -3,7 +3,7 @@
 use Rattle.std.specs.Prelude.{ℕ, ◌≤◌, ◌≡◌, List, Float, ℤ}
 use Rattle.std.proofs.Common.{◌∙◌, arith, ne_eqb}
 use Rattle.rules.specs.declared.RuleList.{RuleList}
-use Rattle.rules.specs.Check.{check_of}
+use Rattle.rules.specs.Check.{checked, check_of}
 use Rattle.rules.specs.Numbers.{rule_numbers}
 use Rattle.monitor.specs.declared.Monitor.{Monitor}
 use Rattle.monitor.specs.Zone.{zone_of}
@@ -18,12 +18,12 @@ use Rattle.table_report.specs.TableReport.{table_printed}
 use Rattle.monitor_report.specs.MonitorReport.{monitor_printed}
 use Rattle.weights_report.specs.WeightsReport.{weights_printed}
 use Rattle.codes.specs.Codes.{check_code}
-use Rattle.capi.specs.MonitorCall.{zone_checked, ZoneCall, step_checked, StepCall}
+use Rattle.capi.specs.MonitorCall.{ZoneCall, StepCall}
 use Rattle.capi.specs.BatchCall.{BatchCall}
 use Rattle.capi.specs.TableCall.{TableCalled}
-use Rattle.capi.specs.BracketCall.{bracket_checked, BracketCalled}
+use Rattle.capi.specs.BracketCall.{BracketCalled}
 use Rattle.capi.specs.PlotCall.{PlotCalled}
-use Rattle.capi.specs.ShiftCall.{shift_checked, ShiftCall}
+use Rattle.capi.specs.ShiftCall.{ShiftCall}
 use Rattle.capi.specs.ReportCall.{printed_checked, ReportCall}
 use Rattle.table_claims.specs.TableOutput.{table_numbers}
 use Rattle.monitor_claims.specs.MonitorOutput.{monitor_numbers}
@@ -38,14 +38,14 @@ check_code_lem l r e = same_code rule_numbers (check_of l) e (check_says l)
 
 -- `catrovindy_zone`
 pub zone_code : {reading centre : ℤ} {sigma : ℕ} {z z' : List ℕ} {r : ℕ} → ZoneCall reading centre sigma z z' r
-    → Coded zone_numbers (zone_checked (zone_of reading centre sigma)) r
+    → Coded zone_numbers (checked (zone_of reading centre sigma)) r
 zone_code {reading} {centre} {sigma} call =
-    same_code zone_numbers (zone_checked (zone_of reading centre sigma)) call.code (zone_says reading centre sigma)
+    same_code zone_numbers (checked (zone_of reading centre sigma)) call.code (zone_says reading centre sigma)
 
 -- `catrovindy_step`
 pub step_code : {l : RuleList} {m : Monitor} {z : ℕ} {s p a s' p' a' : List ℕ} {r : ℕ} → StepCall l m z s p a s' p' a' r
-    → Coded step_numbers (step_checked (step_of l m z)) r
-step_code {l} {m} {z} call = same_code step_numbers (step_checked (step_of l m z)) call.code (step_says l m z)
+    → Coded step_numbers (checked (step_of l m z)) r
+step_code {l} {m} {z} call = same_code step_numbers (checked (step_of l m z)) call.code (step_says l m z)
 
 -- `catrovindy_batch`: it is refused exactly as any first reading would be, also where there is none
 pub batch_code : (l : RuleList) (m : Monitor) (centre : ℤ) (sigma : ℕ) (xs : List ℤ) {s p a s' p' a' : List ℕ} {r : ℕ}
@@ -63,9 +63,9 @@ table_code {t} call = same_code list_numbers (table_check t) call.code (table_sa
 
 -- `catrovindy_bracket`
 pub bracket_code : {pmf : List ℕ} {count p : ℕ} {a a' : List ℕ} {r : ℕ} → BracketCalled pmf count p a a' r
-    → Coded bracket_numbers (bracket_checked (bracket_of pmf count p)) r
+    → Coded bracket_numbers (checked (bracket_of pmf count p)) r
 bracket_code {pmf} {count} {p} call =
-    same_code bracket_numbers (bracket_checked (bracket_of pmf count p)) call.code (bracket_says pmf count p)
+    same_code bracket_numbers (checked (bracket_of pmf count p)) call.code (bracket_says pmf count p)
 
 -- `catrovindy_plot`
 pub plot_code : {t : TableCall} {k : List ℕ} {v : List Float} {p' s' k' : List ℕ} {v' : List Float} {r : ℕ} → PlotCalled t k v p' s' k' v' r
@@ -73,8 +73,8 @@ pub plot_code : {t : TableCall} {k : List ℕ} {v : List Float} {p' s' k' : List
 plot_code {t} call = same_code list_numbers (table_check t) call.code (plot_says t)
 
 -- `catrovindy_shift_weights`
-pub shift_code : {s : ℤ} {w w' : List ℕ} {r : ℕ} → ShiftCall s w w' r → Coded shift_numbers (shift_checked (shift_of s)) r
-shift_code {s} call = same_code shift_numbers (shift_checked (shift_of s)) call.code (shift_says s)
+pub shift_code : {s : ℤ} {w w' : List ℕ} {r : ℕ} → ShiftCall s w w' r → Coded shift_numbers (checked (shift_of s)) r
+shift_code {s} call = same_code shift_numbers (checked (shift_of s)) call.code (shift_says s)
 
 -- `catrovindy_table_report`
 pub table_report_code : (s : List ℕ) {out count out' count' : List ℕ} {r : ℕ} → ReportCall (table_printed s) out count out' count' r

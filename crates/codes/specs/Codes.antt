@@ -1,10 +1,10 @@
 -- TO BELIEVE: the code of a call, a refusal as one number, and a rule list as a caller passes it. Definitions.
-use Rattle.std.specs.Prelude.{ℕ, ◌+◌, ◌*◌, ◌/◌, ◌%◌, List, [], ◌∷◌, get_or}
+use Rattle.std.specs.Prelude.{ℕ, ◌+◌, ◌*◌, ◌/◌, ◌%◌, List, [], ◌∷◌, get_or, Err, Ok}
+use Rattle.rules.specs.Check.{Checked}
+use Rattle.rules.specs.Refusal.{number_of as refusal_number, place_of as refusal_place}
 use Rattle.rules.specs.declared.Rule.{Rule}
 use Rattle.rules.specs.declared.RuleList.{RuleList}
 use Rattle.rules.specs.declared.refusal.Refusal.{Refusal}
-use Rattle.rules.specs.declared.Checked.{Checked}
-use Rattle.rules.specs.declared.Checked.TheVariants.{Accepted, Refused}
 use Rattle.rules.specs.Ready.{rule_of}
 
 -- slot i of a list of numbers: k, m and the zone set
@@ -20,12 +20,12 @@ slot_list slots count = record {
 
 -- a refusal as one number: its number in the low 32 bits, its place above them
 abbrev pub code_of : Refusal → ℕ
-code_of x = x.number + 4294967296 * x.place
+code_of x = refusal_number x + 4294967296 * refusal_place x
 
 -- the code of a call, whichever it is: 0 where it is accepted, else its refusal
 abbrev pub check_code : Checked → ℕ
-check_code Accepted = 0
-check_code (Refused x) = code_of x
+check_code (Ok tt) = 0
+check_code (Err x) = code_of x
 
 -- the number and the place that a code says
 abbrev pub number_of : ℕ → ℕ

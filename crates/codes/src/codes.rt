@@ -10,7 +10,7 @@ use rules::{Refusal, Rule, RuleList};
 pub fn code(r: Refusal) -> u64
     ensures { result ≡ code_of r }
 {
-    r.number as u64 + 4294967296 * (r.place as u64)
+    u64::from(r.number()) + 4294967296 * u64::from(r.place())
 }
 
 // The rule in a slot.

@@ -1,30 +1,30 @@
 -- One step of reading a number at an offset of a text: past the end, at a byte that is no digit, at a digit too many, at any other digit.
+use Rattle.std.specs.Prelude.{None, Some}
 use Prim.Native.Nat.{ℕ, ◌+◌, ◌-◌, ◌<◌, ◌≤◌}
 use mathlib.Core.Path.{◌≡◌}
 use mathlib.Core.List.{List}
 use borrow.Author.Tests.{le-ltb, lt-ltb, eq-eqb, ne_eqb}
 use native.Mathlib.Omega.{arith}
 use lib.ListN.{length, get_or, drop, drop_of_length-le}
-use Rattle.decimal.specs.declared.number.Number.TheVariants.{Value, NoNumber}
 use Rattle.rules.specs.Bounds.{max_number}
 use Rattle.decimal.specs.Number.{more, digits_from, number_at}
 use Rattle.decimal.specs.SpansLaws.{drop_here}
 
 module _ (s : List ℕ) (i v : ℕ) where
-  pub stop_end : length s ≤ i → digits_from (drop i s) v i ≡ Value v i
+  pub stop_end : length s ≤ i → digits_from (drop i s) v i ≡ Some (v , i)
   unfolding digits_from
   stop_end h = rw (drop_of_length-le s h)
 
   module _ (h : i < length s) where
-    pub stop_low : get_or s i 0 < 48 → digits_from (drop i s) v i ≡ Value v i
+    pub stop_low : get_or s i 0 < 48 → digits_from (drop i s) v i ≡ Some (v , i)
     unfolding digits_from
     stop_low l = rw (drop_here s i h, lt-ltb _ _ l)
 
-    pub stop_high : 57 < get_or s i 0 → digits_from (drop i s) v i ≡ Value v i
+    pub stop_high : 57 < get_or s i 0 → digits_from (drop i s) v i ≡ Some (v , i)
     unfolding digits_from
     stop_high l = rw (drop_here s i h, le-ltb (get_or s i 0) 48 (omega arith), lt-ltb _ _ l)
 
-    pub over : 48 ≤ get_or s i 0 → get_or s i 0 ≤ 57 → max_number < more v (get_or s i 0) → digits_from (drop i s) v i ≡ NoNumber
+    pub over : 48 ≤ get_or s i 0 → get_or s i 0 ≤ 57 → max_number < more v (get_or s i 0) → digits_from (drop i s) v i ≡ None
     unfolding digits_from
     over l m o = rw (drop_here s i h, le-ltb _ _ l, le-ltb _ _ m, lt-ltb _ _ o)
 
@@ -35,15 +35,15 @@ module _ (s : List ℕ) (i v : ℕ) where
 
 -- the byte b at i decides
 module _ (s : List ℕ) (i b : ℕ) (e : b ≡ get_or s i 0) where
-  pub number_low : b < 48 → number_at s i ≡ NoNumber
+  pub number_low : b < 48 → number_at s i ≡ None
   unfolding number_at
   number_low l = rw (← e, lt-ltb b 48 l)
 
-  pub number_high : 57 < b → number_at s i ≡ NoNumber
+  pub number_high : 57 < b → number_at s i ≡ None
   unfolding number_at
   number_high h = rw (← e, le-ltb b 48 (omega arith), lt-ltb 57 b h)
 
-  pub number_zero : b ≡ 48 → number_at s i ≡ Value 0 (i + 1)
+  pub number_zero : b ≡ 48 → number_at s i ≡ Some (0 , (i + 1))
   unfolding number_at
   number_zero z = rw (← e, le-ltb b 48 (omega arith), le-ltb 57 b (omega arith), eq-eqb b 48 z)
 

@@ -1,7 +1,5 @@
 -- Reading a number at an offset of a text. Working definitions; NumberLaws says that what is read as n is n in decimal.
-use Rattle.std.specs.Prelude.{ℕ, ◌+◌, ◌-◌, ◌*◌, ◌<◌, ◌≡◌, cond, ◌⊎◌, List, [], ◌∷◌, length, get_or, drop, ltb, eqb}
-use Rattle.decimal.specs.declared.number.Number.{Number}
-use Rattle.decimal.specs.declared.number.Number.TheVariants.{Value, NoNumber}
+use Rattle.std.specs.Prelude.{ℕ, ◌+◌, ◌-◌, ◌*◌, ◌<◌, ◌≡◌, cond, ◌⊎◌, List, [], ◌∷◌, length, get_or, drop, ltb, eqb, None, Option, Some}
 use Rattle.rules.specs.Bounds.{max_number}
 use Rattle.decimal.specs.Word.{comma, word_at, on_found}
 
@@ -19,27 +17,27 @@ abbrev pub NoDigit : ℕ → Type 0
 NoDigit b = (b < 48) ⊎ (57 < b)
 
 -- what follows a digit, or else
-abbrev pub on_digit : ℕ → Number → Number → Number
+abbrev pub on_digit : ℕ → Option (ℕ × ℕ) → Option (ℕ × ℕ) → Option (ℕ × ℕ)
 on_digit b digit other = cond (ltb b 48) other (cond (ltb 57 b) other digit)
 
 -- the digits at the start of the bytes, which stand at the offset i, behind those that gave v: the number and the offset past it
-unfoldable pub digits_from : List ℕ → ℕ → ℕ → Number
-digits_from [] v i = Value v i
+unfoldable pub digits_from : List ℕ → ℕ → ℕ → Option (ℕ × ℕ)
+digits_from [] v i = Some (v , i)
 digits_from (b ∷ bs) v i =
-    on_digit b (cond (ltb max_number (more v b)) NoNumber (digits_from bs (more v b) (i + 1))) (Value v i)
+    on_digit b (cond (ltb max_number (more v b)) None (digits_from bs (more v b) (i + 1))) (Some (v , i))
 
 -- the number at i: a lone 0, or digits of which the first is not 0
-unfoldable pub number_at : List ℕ → ℕ → Number
+unfoldable pub number_at : List ℕ → ℕ → Option (ℕ × ℕ)
 number_at s i =
     on_digit (get_or s i 0)
-    (cond (eqb (get_or s i 0) 48) (Value 0 (i + 1)) (digits_from (drop (i + 1) s) (get_or s i 0 - 48) (i + 1)))
-    NoNumber
+    (cond (eqb (get_or s i 0) 48) (Some (0 , (i + 1))) (digits_from (drop (i + 1) s) (get_or s i 0 - 48) (i + 1)))
+    None
 
 -- the number behind a comma
-unfoldable pub field_at : List ℕ → ℕ → Number
-field_at s i = on_found (word_at comma s i) (number_at s) NoNumber
+unfoldable pub field_at : List ℕ → ℕ → Option (ℕ × ℕ)
+field_at s i = on_found (word_at comma s i) (number_at s) None
 
 -- what follows a number, or else
-abbrev pub on_number : {A : Type 0} → Number → (ℕ → ℕ → A) → A → A
-on_number (Value v i) f other = f v i
-on_number NoNumber f other = other
+abbrev pub on_number : {A : Type 0} → Option (ℕ × ℕ) → (ℕ → ℕ → A) → A → A
+on_number (Some (v , i)) f other = f v i
+on_number None f other = other

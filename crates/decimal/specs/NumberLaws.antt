@@ -1,12 +1,8 @@
 -- Laws of reading a number: what is read as n is n in decimal.
-use Rattle.std.specs.Prelude.{ℕ, ◌+◌, ◌-◌, ◌<◌, ◌≤◌, ◌≡◌, refl, Bool, true, false, cond, ◌⊎◌, List, [], ◌∷◌, ◌++◌, length, get_or, drop, ltb, eqb}
+use Rattle.std.specs.Prelude.{ℕ, ◌+◌, ◌-◌, ◌<◌, ◌≤◌, ◌≡◌, refl, Bool, true, false, cond, ◌⊎◌, List, [], ◌∷◌, ◌++◌, length, get_or, drop, ltb, eqb, None, Option, Some}
 use Rattle.std.proofs.Common.{sym, ap, ◌∙◌, inl, inr, ⊎_elim, append-nil, arith, drop-drop, ltb-false, eqb-true}
 use Rattle.std.proofs.Math.Seq.{append_snoc}
 use Rattle.std.proofs.lemmas.Bool.{eqb-false}
-use Rattle.decimal.specs.declared.number.Number.{Number}
-use Rattle.decimal.specs.declared.number.Number.TheVariants.{Value, NoNumber}
-use Rattle.decimal.specs.declared.word.Found.{Found}
-use Rattle.decimal.specs.declared.word.Found.TheVariants.{At, Absent}
 use Rattle.rules.specs.Bounds.{max_number}
 use Rattle.decimal.specs.Decimal.{digit_byte, decimal}
 use Rattle.decimal.specs.DecimalLaws.{decimal_one, decimal_digit}
@@ -25,7 +21,7 @@ record Digits (l : List ℕ) (v i n j : ℕ) : Type 0 where
   past : j ≡ i + length ds
   fits : n ≤ max_number
 
-none : {l : List ℕ} {v i n j : ℕ} → v ≤ max_number → Value v i ≡ Value n j → Digits l v i n j
+none : {l : List ℕ} {v i n j : ℕ} → v ≤ max_number → Some (v , i) ≡ Some (n , j) → Digits l v i n j
 none {l} {v} {i} {n} {j} h e =
     let p : v ≡ n = cc in
     let q : i ≡ j = cc in
@@ -44,7 +40,7 @@ some {bs} {b} {v} {i} {n} {j} p l h r =
     }
 
 -- a test that was passed
-is_digit : (b : ℕ) (x y z : Number) → on_digit b x y ≡ z → (y ≡ z) ⊎ ((48 ≤ b) × (b ≤ 57) × (x ≡ z))
+is_digit : (b : ℕ) (x y z : Option (ℕ × ℕ)) → on_digit b x y ≡ z → (y ≡ z) ⊎ ((48 ≤ b) × (b ≤ 57) × (x ≡ z))
 is_digit b x y z e = low (ltb b 48) refl e
   where
     high : (t : Bool) → ltb 57 b ≡ t → 48 ≤ b → cond t y x ≡ z → (y ≡ z) ⊎ ((48 ≤ b) × (b ≤ 57) × (x ≡ z))
@@ -55,20 +51,20 @@ is_digit b x y z e = low (ltb b 48) refl e
     low true q e = inl e
     low false q e = high (ltb 57 b) refl (ltb-false _ _ q) e
 
-is_within : (m n j : ℕ) (x : Number) → cond (ltb max_number m) NoNumber x ≡ Value n j → (m ≤ max_number) × (x ≡ Value n j)
+is_within : (m n j : ℕ) (x : Option (ℕ × ℕ)) → cond (ltb max_number m) None x ≡ Some (n , j) → (m ≤ max_number) × (x ≡ Some (n , j))
 is_within m n j x e = go (ltb max_number m) refl e
   where
-    go : (t : Bool) → ltb max_number m ≡ t → cond t NoNumber x ≡ Value n j → (m ≤ max_number) × (x ≡ Value n j)
+    go : (t : Bool) → ltb max_number m ≡ t → cond t None x ≡ Some (n , j) → (m ≤ max_number) × (x ≡ Some (n , j))
     go true q e = let z : ◌≡◌ {A = ℕ} 0 1 = cc in absurd (omega arith)
     go false q e = (ltb-false _ _ q, e)
 
-digits_are : (l : List ℕ) (v i n j : ℕ) → 0 < v → v ≤ max_number → digits_from l v i ≡ Value n j → Digits l v i n j
+digits_are : (l : List ℕ) (v i n j : ℕ) → 0 < v → v ≤ max_number → digits_from l v i ≡ Some (n , j) → Digits l v i n j
 unfolding digits_from
 digits_are [] v i n j p h e = none h e
 digits_are (b ∷ bs) v i n j p h e =
     ⊎_elim
-    (λ (stop : Value v i ≡ Value n j). none h stop)
-    (λ (d : (48 ≤ b) × (b ≤ 57) × (cond (ltb max_number (more v b)) NoNumber (digits_from bs (more v b) (i + 1)) ≡ Value n j)).
+    (λ (stop : Some (v , i) ≡ Some (n , j)). none h stop)
+    (λ (d : (48 ≤ b) × (b ≤ 57) × (cond (ltb max_number (more v b)) None (digits_from bs (more v b) (i + 1)) ≡ Some (n , j))).
     let w = is_within (more v b) n j _ d.2 in
     some p d.0 d.1 (digits_are bs (more v b) (i + 1) n j (omega arith) w.0 w.1))
     (is_digit b _ _ _ e)
@@ -78,7 +74,7 @@ pub record NumberIs (s : List ℕ) (i n j : ℕ) : Type 0 where
   pub spans : Spans s i (decimal n) j
   pub fits : n ≤ max_number
 
-zero_is : (s : List ℕ) (i n j : ℕ) → get_or s i 0 ≡ 48 → Value 0 (i + 1) ≡ Value n j → NumberIs s i n j
+zero_is : (s : List ℕ) (i n j : ℕ) → get_or s i 0 ≡ 48 → Some (0 , (i + 1)) ≡ Some (n , j) → NumberIs s i n j
 unfolding decimal
 zero_is s i n j b e =
     let p : 0 ≡ n = cc in
@@ -95,27 +91,27 @@ digits_is s i n j l h d =
     let t : drop i s ≡ b ∷ drop (i + 1) s = drop_here s i (inside s i (omega arith)) in
     record { spans = record { text = rw (t, m) (ap (λ (l : List ℕ). b ∷ l) q); end = rw m (omega (arith, d.past)) }; fits = d.fits }
 
-pub number_is : (s : List ℕ) (i n j : ℕ) → number_at s i ≡ Value n j → NumberIs s i n j
+pub number_is : (s : List ℕ) (i n j : ℕ) → number_at s i ≡ Some (n , j) → NumberIs s i n j
 unfolding number_at
 number_is s i n j e =
     ⊎_elim
-    (λ (no : NoNumber ≡ Value n j). let z : ◌≡◌ {A = ℕ} 0 1 = cc in absurd (omega arith))
-    (λ (d : (48 ≤ get_or s i 0) × (get_or s i 0 ≤ 57) × (cond (eqb (get_or s i 0) 48) (Value 0 (i + 1)) (digits_from (drop (i + 1) s) (get_or s i 0 - 48) (i + 1)) ≡ Value n j)).
+    (λ (no : None ≡ Some (n , j)). let z : ◌≡◌ {A = ℕ} 0 1 = cc in absurd (omega arith))
+    (λ (d : (48 ≤ get_or s i 0) × (get_or s i 0 ≤ 57) × (cond (eqb (get_or s i 0) 48) (Some (0 , (i + 1))) (digits_from (drop (i + 1) s) (get_or s i 0 - 48) (i + 1)) ≡ Some (n , j))).
     go (eqb (get_or s i 0) 48) refl d.0 d.1 d.2)
     (is_digit (get_or s i 0) _ _ _ e)
   where
     go : (t : Bool) → eqb (get_or s i 0) 48 ≡ t → 48 ≤ get_or s i 0 → get_or s i 0 ≤ 57
-        → cond t (Value 0 (i + 1)) (digits_from (drop (i + 1) s) (get_or s i 0 - 48) (i + 1)) ≡ Value n j → NumberIs s i n j
+        → cond t (Some (0 , (i + 1))) (digits_from (drop (i + 1) s) (get_or s i 0 - 48) (i + 1)) ≡ Some (n , j) → NumberIs s i n j
     go true q l h e = zero_is s i n j (eqb-true _ _ q) e
     go false q l h e =
         let u : get_or s i 0 ≡ 48 → ⊥ = eqb-false _ _ q in
         digits_is s i n j (omega arith) h (digits_are (drop (i + 1) s) (get_or s i 0 - 48) (i + 1) n j (omega arith) (omega arith) e)
 
 -- a field that is read as n is a comma and n in decimal
-pub field_is : (s : List ℕ) (i n j : ℕ) → field_at s i ≡ Value n j → Spans s i (field n) j × (n ≤ max_number)
+pub field_is : (s : List ℕ) (i n j : ℕ) → field_at s i ≡ Some (n , j) → Spans s i (field n) j × (n ≤ max_number)
 unfolding field_at field
 field_is s i n j e = go (word_at comma s i) refl e
   where
-    go : (f : Found) → word_at comma s i ≡ f → on_found f (number_at s) NoNumber ≡ Value n j → Spans s i (field n) j × (n ≤ max_number)
-    go (At p) q e = let r = number_is s p n j e in (spans_then (word_spans comma s i p q) r.spans, r.fits)
-    go Absent q e = let z : ◌≡◌ {A = ℕ} 0 1 = cc in absurd (omega arith)
+    go : (f : Option ℕ) → word_at comma s i ≡ f → on_found f (number_at s) None ≡ Some (n , j) → Spans s i (field n) j × (n ≤ max_number)
+    go (Some p) q e = let r = number_is s p n j e in (spans_then (word_spans comma s i p q) r.spans, r.fits)
+    go None q e = let z : ◌≡◌ {A = ℕ} 0 1 = cc in absurd (omega arith)

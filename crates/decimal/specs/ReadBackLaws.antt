@@ -1,8 +1,7 @@
 -- Laws of reading a number back: n in decimal, before a byte that is no digit, is read as n.
-use Rattle.std.specs.Prelude.{ℕ, zero, suc, ◌+◌, ◌-◌, ◌*◌, ◌/◌, ◌%◌, ◌<◌, ◌≤◌, ◌≡◌, refl, Bool, true, false, ◌⊎◌, List, [], ◌∷◌, ◌++◌, length, get_or, drop, ltb}
+use Rattle.std.specs.Prelude.{ℕ, zero, suc, ◌+◌, ◌-◌, ◌*◌, ◌/◌, ◌%◌, ◌<◌, ◌≤◌, ◌≡◌, refl, Bool, true, false, ◌⊎◌, List, [], ◌∷◌, ◌++◌, length, get_or, drop, ltb, Some}
 use Rattle.std.proofs.Common.{ap, ◌∙◌, inl, inr, ⊎_elim, arith, add-zero, le_refl, length-append, drop_of_length-le, ltb-true, ltb-false, lt-ltb, le-ltb, ne_eqb}
 use Rattle.std.proofs.Math.Seq.{append_snoc}
-use Rattle.decimal.specs.declared.number.Number.TheVariants.{Value}
 use Rattle.rules.specs.Bounds.{max_number}
 use Rattle.decimal.specs.Decimal.{digit_byte, decimal}
 use Rattle.decimal.specs.DecimalLaws.{decimal_one, decimal_more}
@@ -70,7 +69,7 @@ opens (suc k) n h p l =
     (below_or n 10)
 
 -- the digits end at j
-digits_end : (s : List ℕ) (j v : ℕ) → NoDigit (get_or s j 0) → digits_from (drop j s) v j ≡ Value v j
+digits_end : (s : List ℕ) (j v : ℕ) → NoDigit (get_or s j 0) → digits_from (drop j s) v j ≡ Some (v , j)
 unfolding digits_from
 digits_end s j v h =
     ⊎_elim
@@ -78,11 +77,11 @@ digits_end s j v h =
     (λ (l : length s ≤ j). rw (drop_of_length-le s l))
     (below_or j (length s))
   where
-    stop : (b : ℕ) → NoDigit b → digits_from (b ∷ drop (j + 1) s) v j ≡ Value v j
+    stop : (b : ℕ) → NoDigit b → digits_from (b ∷ drop (j + 1) s) v j ≡ Some (v , j)
     stop b (inl l) = rw (lt-ltb b 48 l)
     stop b (inr h) = rw (le-ltb b 48 (omega arith), lt-ltb 57 b h)
 
-pub number_read : {s : List ℕ} {i j : ℕ} (n : ℕ) → Spans s i (decimal n) j → n ≤ max_number → NoDigit (get_or s j 0) → number_at s i ≡ Value n j
+pub number_read : {s : List ℕ} {i j : ℕ} (n : ℕ) → Spans s i (decimal n) j → n ≤ max_number → NoDigit (get_or s j 0) → number_at s i ≡ Some (n , j)
 unfolding number_at decimal
 number_read {s} {i} {j} zero u l h = rw (first_byte s i u.text, u.end)
 number_read {s} {i} {j} (suc n) u l h =
@@ -101,7 +100,7 @@ number_first {s} {i} {j} (suc n) u l =
     let e : get_or s i 0 ≡ o.first = first_byte s i (rw o.bytes at u.text) in
     omega (arith, o.low)
 
-pub field_read : {s : List ℕ} {i j : ℕ} (n : ℕ) → Spans s i (field n) j → n ≤ max_number → NoDigit (get_or s j 0) → field_at s i ≡ Value n j
+pub field_read : {s : List ℕ} {i j : ℕ} (n : ℕ) → Spans s i (field n) j → n ≤ max_number → NoDigit (get_or s j 0) → field_at s i ≡ Some (n , j)
 unfolding field_at field
 field_read n u l h =
     rw (word_read comma (spans_front comma (decimal n) u)) (number_read n (spans_back comma (decimal n) u) l h)

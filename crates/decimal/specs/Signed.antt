@@ -1,8 +1,6 @@
 -- Reading a signed number at an offset of a text: a minus and a number other than 0, or a number; and signed numbers as unsigned ones, 2^31
 -- higher, as code keeps them. Working definitions.
-use Rattle.std.specs.Prelude.{ℕ, suc, ◌+◌, ◌-◌, cond, List, get_or, eqb, ltb, ℤ, pos, negsuc}
-use Rattle.decimal.specs.declared.number.Number.{Number}
-use Rattle.decimal.specs.declared.number.Number.TheVariants.{Value, NoNumber}
+use Rattle.std.specs.Prelude.{ℕ, suc, ◌+◌, ◌-◌, cond, List, get_or, eqb, ltb, ℤ, pos, negsuc, None, Option, Some}
 use Rattle.decimal.specs.Decimal.{minus_byte, max_positive, max_negative}
 use Rattle.decimal.specs.Word.{comma, word_at, on_found}
 use Rattle.decimal.specs.Number.{number_at, on_number}
@@ -13,11 +11,11 @@ pub data Signed : Type 0 where
   NoSigned : Signed
 
 -- what a number behind a minus gives
-abbrev pub minus : Number → Signed
+abbrev pub minus : Option (ℕ × ℕ) → Signed
 minus x = on_number x (λ n e. cond (eqb n 0) NoSigned (cond (ltb max_negative n) NoSigned (Whole (negsuc (n - 1)) e))) NoSigned
 
 -- what a number with no minus gives
-abbrev pub plus : Number → Signed
+abbrev pub plus : Option (ℕ × ℕ) → Signed
 plus x = on_number x (λ n e. cond (ltb max_positive n) NoSigned (Whole (pos n) e)) NoSigned
 
 unfoldable pub signed_at : List ℕ → ℕ → Signed
@@ -42,6 +40,6 @@ abbrev pub lowered : ℕ → ℤ
 lowered n = cond (ltb n max_negative) (negsuc (max_negative - n - 1)) (pos (n - max_negative))
 
 -- what is read of a signed number: the unsigned one
-abbrev pub raised_of : Signed → Number
-raised_of (Whole x i) = Value (raised x) i
-raised_of NoSigned = NoNumber
+abbrev pub raised_of : Signed → Option (ℕ × ℕ)
+raised_of (Whole x i) = Some ((raised x) , i)
+raised_of NoSigned = None

@@ -1,16 +1,12 @@
 -- Laws of reading a signed number: what is read as x is x in decimal, and x in decimal before a byte that is no digit is read as x.
 use Prim.Native.Nat.{ℕ, suc, ◌+◌, ◌-◌, ◌≤◌}
 use Rattle.std.proofs.Math.Path.{◌≡◌, refl}
-use Rattle.std.specs.Prelude.{Bool, List, [], ◌∷◌, get_or, ltb, ℤ}
+use Rattle.std.specs.Prelude.{Bool, List, [], ◌∷◌, get_or, ltb, ℤ, None, Option, Some}
 use Rattle.std.proofs.Math.Bool.{true, false, cond}
 use native.Mathlib.Omega.{arith}
 use Rattle.std.proofs.Math.Dec.{eqb}
 use Rattle.std.proofs.Math.IntN.{pos, negsuc}
 use borrow.Author.Tests.{ltb-false, eqb-true, eqb-false, le-ltb, lt-ltb, eq-eqb, ne_eqb}
-use Rattle.decimal.specs.declared.number.Number.{Number}
-use Rattle.decimal.specs.declared.number.Number.TheVariants.{Value, NoNumber}
-use Rattle.decimal.specs.declared.word.Found.{Found}
-use Rattle.decimal.specs.declared.word.Found.TheVariants.{At, Absent}
 use Rattle.decimal.specs.Decimal.{decimal, minus_byte, signed_decimal, max_positive, max_negative}
 use Rattle.decimal.specs.Spans.{Spans}
 use Rattle.decimal.specs.SpansLaws.{spans_byte, spans_then, spans_front, spans_back, spans_first}
@@ -33,18 +29,18 @@ not_met true x y j e = let z : ◌≡◌ {A = ℕ} 0 1 = cc in absurd (omega ari
 not_met false x y j e = (refl, e)
 
 module _ (s : List ℕ) (i : ℕ) (x : ℤ) (j : ℕ) where
-  plus_is : (f : Number) → number_at s i ≡ f → plus f ≡ Whole x j → SignedIs s i x j
+  plus_is : (f : Option (ℕ × ℕ)) → number_at s i ≡ f → plus f ≡ Whole x j → SignedIs s i x j
   unfolding signed_decimal
-  plus_is (Value n e) q p =
+  plus_is (Some (n , e)) q p =
       let b = not_met (ltb max_positive n) _ x j p in
       let y : pos n ≡ x = cc in
       let k : e ≡ j = cc in
       rw (← y, ← k) (record { spans = (number_is s i n e q).spans; range = ltb-false max_positive n b.0 })
-  plus_is NoNumber q p = let z : ◌≡◌ {A = ℕ} 0 1 = cc in absurd (omega arith)
+  plus_is None q p = let z : ◌≡◌ {A = ℕ} 0 1 = cc in absurd (omega arith)
 
-  minus_is : (f : Number) → number_at s (i + 1) ≡ f → get_or s i 0 ≡ minus_byte → minus f ≡ Whole x j → SignedIs s i x j
+  minus_is : (f : Option (ℕ × ℕ)) → number_at s (i + 1) ≡ f → get_or s i 0 ≡ minus_byte → minus f ≡ Whole x j → SignedIs s i x j
   unfolding signed_decimal
-  minus_is (Value n e) q m p =
+  minus_is (Some (n , e)) q m p =
       let a = not_met (eqb n 0) _ x j p in
       let b = not_met (ltb max_negative n) _ x j a.1 in
       let y : negsuc (n - 1) ≡ x = cc in
@@ -53,7 +49,7 @@ module _ (s : List ℕ) (i : ℕ) (x : ℤ) (j : ℕ) where
       let o : suc (n - 1) ≡ n = omega arith in
       let r : suc (n - 1) ≤ max_negative = omega (arith, ltb-false max_negative n b.0) in
       rw (← y, ← k) (record { spans = rw o (spans_then (spans_byte s i minus_byte m (omega arith)) (number_is s (i + 1) n e q).spans); range = r })
-  minus_is NoNumber q m p = let z : ◌≡◌ {A = ℕ} 0 1 = cc in absurd (omega arith)
+  minus_is None q m p = let z : ◌≡◌ {A = ℕ} 0 1 = cc in absurd (omega arith)
 
   signed_is : signed_at s i ≡ Whole x j → SignedIs s i x j
   unfolding signed_at
@@ -68,9 +64,9 @@ pub signed_field_is : (s : List ℕ) (i : ℕ) (x : ℤ) (j : ℕ) → signed_fi
 unfolding signed_field_at
 signed_field_is s i x j e = go (word_at comma s i) refl e
   where
-    go : (f : Found) → word_at comma s i ≡ f → on_found f (signed_at s) NoSigned ≡ Whole x j → Spans s i (signed_field x) j × InSigned x
-    go (At p) q e = let r = signed_is s p x j e in (spans_then (word_spans comma s i p q) r.spans, r.range)
-    go Absent q e = let z : ◌≡◌ {A = ℕ} 0 1 = cc in absurd (omega arith)
+    go : (f : Option ℕ) → word_at comma s i ≡ f → on_found f (signed_at s) NoSigned ≡ Whole x j → Spans s i (signed_field x) j × InSigned x
+    go (Some p) q e = let r = signed_is s p x j e in (spans_then (word_spans comma s i p q) r.spans, r.range)
+    go None q e = let z : ◌≡◌ {A = ℕ} 0 1 = cc in absurd (omega arith)
 
 signed_read : {s : List ℕ} {i j : ℕ} (x : ℤ) → Spans s i (signed_decimal x) j → InSigned x → NoDigit (get_or s j 0) → signed_at s i ≡ Whole x j
 unfolding signed_at signed_decimal

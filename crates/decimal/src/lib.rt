@@ -5,6 +5,6 @@ mod number;
 mod signed;
 mod word;
 
-pub use number::{Number, field};
+pub use number::field;
 pub use signed::{signed_field, signed_value};
-pub use word::{Found, past};
+pub use word::past;

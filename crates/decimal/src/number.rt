@@ -3,18 +3,11 @@ ghost use Rattle.std.specs.Prelude.{◌≡◌, ◌≤◌, drop};
 ghost use Rattle.rules.specs.Bounds.{max_number};
 ghost use Rattle.decimal.specs.Number.{Seen, digits_from, number_at, field_at};
 
-use crate::word::{Found, past};
+use crate::word::past;
 use rules::MAX_NUMBER;
 
 // The largest number that is read.
 const LARGEST: u64 = MAX_NUMBER as u64;
-
-// A number and the offset past it.
-#[derive(Clone, Copy)]
-pub enum Number {
-    Value(u32, usize),
-    NoNumber,
-}
 
 // The byte at i, or 0 past the end.
 pub fn byte_at(text: &[u8], i: usize) -> u8
@@ -23,14 +16,8 @@ pub fn byte_at(text: &[u8], i: usize) -> u8
     if i < text.len() { text[i] } else { 0 }
 }
 
-fn wide(byte: u8) -> u64
-    ensures { result ≡ byte }
-{
-    byte as u64
-}
-
-// The digits from `at` on, behind those that gave `before`.
-fn digits(text: &[u8], at: usize, before: u64) -> Number
+// The number and the offset past it: the digits from `at` on, behind those that gave `before`.
+fn digits(text: &[u8], at: usize, before: u64) -> Option<(u32, usize)>
     requires { before ≤ max_number }
     ensures { result ≡ digits_from (drop at text.now) before at }
 {
@@ -39,43 +26,40 @@ fn digits(text: &[u8], at: usize, before: u64) -> Number
     while i < text.len() {
         let b = text[i];
         if b < b'0' {
-            return Number::Value(v as u32, i);
+            return Some((v as u32, i));
         }
         if b > b'9' {
-            return Number::Value(v as u32, i);
+            return Some((v as u32, i));
         }
-        v = v * 10 + (wide(b) - 48);
+        v = v * 10 + (u64::from(b) - 48);
         if v > LARGEST {
-            return Number::NoNumber;
+            return None;
         }
         i += 1;
     }
-    Number::Value(v as u32, i)
+    Some((v as u32, i))
 }
 
-// The number at `at`: no sign, no needless zero, within 32 bits.
-pub fn number_at(text: &[u8], at: usize) -> Number
+// The number at `at` and the offset past it: no sign, no needless zero, within 32 bits.
+pub fn number_at(text: &[u8], at: usize) -> Option<(u32, usize)>
     ensures { result ≡ number_at text.now at }
 {
     let b = byte_at(text, at);
     if b < b'0' {
-        return Number::NoNumber;
+        return None;
     }
     if b > b'9' {
-        return Number::NoNumber;
+        return None;
     }
     if b == b'0' {
-        return Number::Value(0, at + 1);
+        return Some((0, at + 1));
     }
-    digits(text, at + 1, wide(b) - 48)
+    digits(text, at + 1, u64::from(b) - 48)
 }
 
 // The number behind a comma at `at`.
-pub fn field(text: &[u8], at: usize) -> Number
+pub fn field(text: &[u8], at: usize) -> Option<(u32, usize)>
     ensures { result ≡ field_at text.now at }
 {
-    let Found::At(p) = past(text, at, b",") else {
-        return Number::NoNumber;
-    };
-    number_at(text, p)
+    number_at(text, past(text, at, b",")?)
 }

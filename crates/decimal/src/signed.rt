@@ -3,8 +3,8 @@ ghost use Rattle.std.specs.Prelude.{◌≡◌, ◌-◌, ◌<◌, ◌≤◌, pos,
 ghost use Rattle.decimal.specs.Decimal.{max_positive, max_negative};
 ghost use Rattle.decimal.specs.Signed.{signed_at, signed_field_at, raised_of, lowered};
 
-use crate::number::{Number, byte_at, number_at};
-use crate::word::{Found, past};
+use crate::number::{byte_at, number_at};
+use crate::word::past;
 
 // 2^31: by how much a signed number is raised, and the size of the least one.
 const RAISE: u32 = 2147483648;
@@ -36,37 +36,30 @@ pub fn signed_value(n: u32) -> i32
 }
 
 // The signed number at `at`, raised: a minus never stands before 0.
-fn signed_at(text: &[u8], at: usize) -> Number
+fn signed_at(text: &[u8], at: usize) -> Option<(u32, usize)>
     ensures { result ≡ raised_of (signed_at text.now at) }
 {
     if byte_at(text, at) == b'-' {
-        let Number::Value(n, e) = number_at(text, at + 1) else {
-            return Number::NoNumber;
-        };
+        let (n, e) = number_at(text, at + 1)?;
         if n == 0 {
-            return Number::NoNumber;
+            return None;
         }
         if n > RAISE {
-            return Number::NoNumber;
+            return None;
         }
-        Number::Value(RAISE - n, e)
+        Some((RAISE - n, e))
     } else {
-        let Number::Value(n, e) = number_at(text, at) else {
-            return Number::NoNumber;
-        };
+        let (n, e) = number_at(text, at)?;
         if n >= RAISE {
-            return Number::NoNumber;
+            return None;
         }
-        Number::Value(RAISE + n, e)
+        Some((RAISE + n, e))
     }
 }
 
 // The signed number behind a comma at `at`, raised.
-pub fn signed_field(text: &[u8], at: usize) -> Number
+pub fn signed_field(text: &[u8], at: usize) -> Option<(u32, usize)>
     ensures { result ≡ raised_of (signed_field_at text.now at) }
 {
-    let Found::At(p) = past(text, at, b",") else {
-        return Number::NoNumber;
-    };
-    signed_at(text, p)
+    signed_at(text, past(text, at, b",")?)
 }

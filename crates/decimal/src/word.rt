@@ -2,28 +2,19 @@
 ghost use Rattle.std.specs.Prelude.{◌≡◌};
 ghost use Rattle.decimal.specs.Word.{word_at};
 
-// An offset, where there is one.
-#[derive(Clone, Copy)]
-pub enum Found {
-    At(usize),
-    Absent,
-}
-
 // The offset past the word, where it stands at `at`.
-pub fn past(text: &[u8], at: usize, word: &[u8]) -> Found
+pub fn past(text: &[u8], at: usize, word: &[u8]) -> Option<usize>
     ensures { result ≡ word_at word.now text.now at }
 {
     let mut i = at;
-    let mut j = 0;
-    while j < word.len() {
+    for byte in word {
         if text.len() <= i {
-            return Found::Absent;
+            return None;
         }
-        if text[i] != word[j] {
-            return Found::Absent;
+        if text[i] != *byte {
+            return None;
         }
         i += 1;
-        j += 1;
     }
-    Found::At(i)
+    Some(i)
 }

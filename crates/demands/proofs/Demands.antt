@@ -1,10 +1,8 @@
 -- CLAIMS: the customer's three demands, clause by clause, in their words and in their order. The fields of a record are
 -- the clauses, and the theorem behind it says that they hold of every call.
-use Rattle.std.specs.Prelude.{ℕ, suc, ◌+◌, ◌-◌, ◌*◌, ◌/◌, ◌^◌, ◌≤◌, ◌<◌, ◌≡◌, true, List, [], ◌↔◌, ℤ}
+use Rattle.std.specs.Prelude.{ℕ, suc, ◌+◌, ◌-◌, ◌*◌, ◌/◌, ◌^◌, ◌≤◌, ◌<◌, ◌≡◌, true, List, [], ◌↔◌, ℤ, Err, Ok}
 use Rattle.rules.specs.declared.RuleList.{RuleList}
 use Rattle.rules.specs.declared.refusal.Refusal.{Refusal}
-use Rattle.rules.specs.declared.Checked.TheVariants.{Accepted, Refused}
-use Rattle.rules.specs.Refusal.{refusal}
 use Rattle.rules.specs.Check.{active_rules, check_of}
 use Rattle.runlength.specs.Scale.{max_horizon, weight_total, units_per_one}
 use Rattle.runlength.specs.Sum.{at, sum}
@@ -12,22 +10,16 @@ use Rattle.runlength.specs.Chain.{cdf_of}
 use Rattle.window.specs.ReferenceChart.{chart_answers}
 use Rattle.monitor.specs.declared.Monitor.{Monitor}
 use Rattle.monitor.specs.declared.Step.{Step}
-use Rattle.monitor.specs.declared.zone.ZoneAnswer.{ZoneAnswer}
 use Rattle.monitor.specs.Zone.{zone_of}
 use Rattle.monitor.specs.Step.{fresh_monitor, step_of}
 use Rattle.monitor.specs.Calls.{monitor_answers}
 use Rattle.batch.specs.Batch.{batch_of, Ends}
 use Rattle.table.specs.declared.TableFigures.{TableFigures}
-use Rattle.table.specs.declared.TableAnswer.{TableAnswer}
 use Rattle.table.specs.Table.{TableCall, rules_of, table_of, pmf_of, mean_of}
-use Rattle.summary.specs.declared.SummaryAnswer.{SummaryAnswer}
 use Rattle.summary.specs.Summary.{summary_of}
-use Rattle.plot.specs.declared.BoxPlotAnswer.{BoxPlotAnswer}
 use Rattle.plot.specs.Plot.{box_plot_of}
-use Rattle.bracket.specs.declared.BracketAnswer.{BracketAnswer}
 use Rattle.bracket.specs.Bracket.{bracket_of}
 use Rattle.bracket.specs.Contains.{ContainsPercentile}
-use Rattle.shift.specs.declared.ShiftAnswer.{ShiftAnswer}
 use Rattle.shift.specs.Shift.{shift_of}
 use Rattle.write.specs.Refused.{refused_line}
 use Rattle.write.specs.Printed.{printed_bytes}
@@ -47,7 +39,7 @@ use Rattle.table_claims.proofs.TableProgram.{table_program_by_row}
 use Rattle.monitor_claims.specs.MonitorOutput.{MonitorProgram}
 use Rattle.monitor_claims.proofs.MonitorProgram.{monitor_program}
 use Rattle.demands.specs.Order.{ListOrder, ZoneOrder, StepOrder, BatchOrder, TableOrder, BracketOrder, ShiftOrder}
-use Rattle.demands.specs.TextOrder.{TableTextOrder, MonitorTextOrder, WeightsTextOrder}
+use Rattle.demands.specs.TextOrder.{Told, TableTextOrder, MonitorTextOrder, WeightsTextOrder}
 use Rattle.demands.specs.Kept.{OperationsKeep, ExportedKeep}
 use Rattle.demands.proofs.AnswerOrderLaws as answer
 use Rattle.demands.proofs.TextOrderLaws as text
@@ -55,10 +47,10 @@ use Rattle.demands.specs.KeptLaws.{operations_keep, exported_keep}
 
 -- an accepted rule list; an accepted call of the table with its figures, of which N, and its horizon H
 abbrev pub AcceptedList : RuleList → Type 0
-AcceptedList l = check_of l ≡ Accepted
+AcceptedList l = check_of l ≡ Ok tt
 
 abbrev pub Tabled : TableCall → TableFigures → Type 0
-Tabled t f = (table_of t).answer ≡ TableAnswer.Accepted f
+Tabled t f = (table_of t).answer ≡ Ok f
 
 abbrev pub N : TableFigures → ℕ
 N f = f.state_count
@@ -72,28 +64,28 @@ H t = t.horizon
 pub record Demand1 : Type 0 where
   -- 'and refuses by a number whose condition and place in the order are fixed': by x exactly where x is the first of
   -- the operation's order that holds
-  pub list : (l : RuleList) (x : Refusal) → (check_of l ≡ Refused x) ↔ ListOrder l x
-  pub zone : (r c : ℤ) (sigma : ℕ) (x : Refusal) → (zone_of r c sigma ≡ ZoneAnswer.Refused x) ↔ ZoneOrder sigma x
-  pub step : (l : RuleList) (m : Monitor) (z : ℕ) (x : Refusal) → (step_of l m z ≡ Step.Refused x) ↔ StepOrder l m z x
+  pub list : (l : RuleList) (x : Refusal) → (check_of l ≡ Err x) ↔ ListOrder l x
+  pub zone : (r c : ℤ) (sigma : ℕ) (x : Refusal) → (zone_of r c sigma ≡ Err x) ↔ ZoneOrder sigma x
+  pub step : (l : RuleList) (m : Monitor) (z : ℕ) (x : Refusal) → (step_of l m z ≡ Err x) ↔ StepOrder l m z x
   -- a batch as its first reading would be, also where it has none; else it ends by itself, or at a full count behind
   -- readings that it took
   pub batch : (l : RuleList) (m : Monitor) (c : ℤ) (sigma : ℕ) (rs : List ℤ) (x : Refusal)
-      → (batch_checked (batch_of l m c sigma rs) ≡ Refused x) ↔ BatchOrder l m sigma x
+      → (batch_checked (batch_of l m c sigma rs) ≡ Err x) ↔ BatchOrder l m sigma x
   pub batch_else : (l : RuleList) (m : Monitor) (c : ℤ) (sigma : ℕ) (rs : List ℤ)
-      → batch_checked (batch_of l m c sigma rs) ≡ Accepted → Ends (batch_of l m c sigma rs)
-  pub table : (t : TableCall) (x : Refusal) → ((table_of t).answer ≡ TableAnswer.Refused x) ↔ TableOrder t x
-  pub summary : (t : TableCall) (x : Refusal) → ((summary_of t).answer ≡ SummaryAnswer.Refused x) ↔ TableOrder t x
-  pub plot : (t : TableCall) (x : Refusal) → ((box_plot_of t).answer ≡ BoxPlotAnswer.Refused x) ↔ TableOrder t x
+      → batch_checked (batch_of l m c sigma rs) ≡ Ok tt → Ends (batch_of l m c sigma rs)
+  pub table : (t : TableCall) (x : Refusal) → ((table_of t).answer ≡ Err x) ↔ TableOrder t x
+  pub summary : (t : TableCall) (x : Refusal) → ((summary_of t).answer ≡ Err x) ↔ TableOrder t x
+  pub plot : (t : TableCall) (x : Refusal) → ((box_plot_of t).answer ≡ Err x) ↔ TableOrder t x
   pub bracket : (chances : List ℕ) (n p : ℕ) (x : Refusal)
-      → (bracket_of chances n p ≡ BracketAnswer.Refused x) ↔ BracketOrder chances n p x
-  pub shift : (s : ℤ) (x : Refusal) → (shift_of s ≡ ShiftAnswer.Refused x) ↔ ShiftOrder s x
+      → (bracket_of chances n p ≡ Err x) ↔ BracketOrder chances n p x
+  pub shift : (s : ℤ) (x : Refusal) → (shift_of s ≡ Err x) ↔ ShiftOrder s x
   -- a program prints the line of a refusal, and nothing else, exactly where that is the first of the text's order
   pub table_program_refuses : (s : List ℕ) (n place : ℕ)
-      → (printed_bytes (table_printed s) ≡ refused_line n place) ↔ TableTextOrder s (refusal n place)
+      → (printed_bytes (table_printed s) ≡ refused_line n place) ↔ Told (TableTextOrder s) n place
   pub monitor_program_refuses : (s : List ℕ) (n place : ℕ)
-      → (printed_bytes (monitor_printed s) ≡ refused_line n place) ↔ MonitorTextOrder s (refusal n place)
+      → (printed_bytes (monitor_printed s) ≡ refused_line n place) ↔ Told (MonitorTextOrder s) n place
   pub weights_program_refuses : (s : List ℕ) (n place : ℕ)
-      → (printed_bytes (weights_printed s) ≡ refused_line n place) ↔ WeightsTextOrder s (refusal n place)
+      → (printed_bytes (weights_printed s) ≡ refused_line n place) ↔ Told (WeightsTextOrder s) n place
   -- 'a refusal alters no lent buffer'
   pub operations : OperationsKeep
   pub exported : ExportedKeep

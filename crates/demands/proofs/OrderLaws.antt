@@ -1,16 +1,14 @@
 -- Each check is refused by the first condition of its order that holds, and by no other number. Laws.
-use Rattle.std.specs.Prelude.{ℕ, ◌+◌, ◌≤◌, ◌<◌, ◌≡◌, refl, Bool, true, false, cond, List, [], ◌∷◌, leb, ltb, eqb, ℤ, nat_abs, length}
+use Rattle.std.specs.Prelude.{ℕ, ◌+◌, ◌≤◌, ◌<◌, ◌≡◌, refl, Bool, true, false, cond, List, [], ◌∷◌, leb, ltb, eqb, ℤ, nat_abs, length, Err, Ok}
 use Rattle.std.proofs.Common.{arith, leb-true, leb-false, ltb-true, ltb-false, eqb-true}
 use Rattle.std.proofs.lemmas.Bool.{eqb-false}
 use Rattle.rules.specs.declared.Rule.{Rule}
 use Rattle.rules.specs.declared.RuleList.{RuleList}
 use Rattle.rules.specs.declared.refusal.Refusal.{Refusal}
-use Rattle.rules.specs.declared.Checked.{Checked}
-use Rattle.rules.specs.declared.Checked.TheVariants.{Accepted, Refused}
 use Rattle.rules.specs.Bounds.{zone_count, max_number, max_states, min_rules, max_rules, min_window, max_window, min_hits, min_zone_set, max_zone_set}
 use Rattle.rules.specs.Refusal.{bad_sigma, bad_rule_count, bad_rule_bounds, bad_zone_set, bad_state, bad_zone, bad_count, bad_weights, bad_horizon}
 use Rattle.rules.specs.Refusal.{too_many_states, short_list, bad_list_length, bad_state_count, bad_percent, bad_total, bad_shift}
-use Rattle.rules.specs.Check.{within, check_rule, or_else, unless, check_rules, active_rules, check_of}
+use Rattle.rules.specs.Check.{Checked, within, check_rule, or_else, unless, check_rules, active_rules, check_of}
 use Rattle.rules.proofs.CheckLaws.{between, accepted}
 use Rattle.rules.proofs.NumbersLaws.{not_both}
 use Rattle.runlength.specs.Scale.{min_horizon, max_horizon, weight_total, units_per_one}
@@ -33,11 +31,11 @@ use Rattle.demands.specs.Order.{SigmaThen, StateThenCount, StepOrder, BatchOrder
 
 -- a check is refused exactly as an order says
 pub record Follows (c : Checked) (Order : Refusal → Type 0) : Type 0 where
-  pub to : (x : Refusal) → c ≡ Refused x → Order x
-  pub from : (x : Refusal) → Order x → c ≡ Refused x
+  pub to : (x : Refusal) → c ≡ Err x → Order x
+  pub from : (x : Refusal) → Order x → c ≡ Err x
 
 -- nothing is left to refuse by
-pub none_left : Follows Accepted Unrefused
+pub none_left : Follows (Ok tt) Unrefused
 none_left = record { to = λ x e. not_both x e; from = λ x o. absurd o }
 
 -- one test, then the rest: what it tests is the condition
@@ -47,15 +45,15 @@ pub one_test : (b : Bool) {Condition : Type 0} (y : Refusal) {c : Checked} {Rest
 one_test true {Condition} y {c} {Rest} passes fails rest =
     record { to = λ x e. later (passes refl) ((rest refl).to x e); from = back }
   where
-    back : (x : Refusal) → By Condition y Rest x → c ≡ Refused x
+    back : (x : Refusal) → By Condition y Rest x → c ≡ Err x
     back x (here a) = absurd (passes refl a)
     back x (later n r) = (rest refl).from x r
 one_test false {Condition} y {c} {Rest} passes fails rest = record { to = on; from = back }
   where
-    on : (x : Refusal) → Refused y ≡ Refused x → By Condition y Rest x
+    on : (x : Refusal) → Err y ≡ Err x → By Condition y Rest x
     on x e = let same : y ≡ x = cc in rw (← same) (here (fails refl))
 
-    back : (x : Refusal) → By Condition y Rest x → Refused y ≡ Refused x
+    back : (x : Refusal) → By Condition y Rest x → Err y ≡ Err x
     back x (here a) = refl
     back x (later n r) = absurd (n (fails refl))
 
@@ -89,12 +87,12 @@ below_test a b y rest = one_test (ltb a b) y (λ e h. omega (arith, ltb-true a b
     (λ e. rest (ltb-true a b e))
 
 -- a last test
-pub last : {c : Checked} {Order : Refusal → Type 0} → Follows (or_else c Accepted) Order → Follows c Order
+pub last : {c : Checked} {Order : Refusal → Type 0} → Follows (or_else c (Ok tt)) Order → Follows c Order
 last {c} f = same_check (alone c) f
   where
-    alone : (c : Checked) → or_else c Accepted ≡ c
-    alone Accepted = refl
-    alone (Refused x) = refl
+    alone : (c : Checked) → or_else c (Ok tt) ≡ c
+    alone (Ok tt) = refl
+    alone (Err x) = refl
 
     same_check : {c d : Checked} {Order : Refusal → Type 0} → c ≡ d → Follows c Order → Follows d Order
     same_check e f = rw (← e) f
@@ -105,11 +103,11 @@ same e f = rw e f
 -- ---- rule lists
 
 grouped : (a b c : Checked) → or_else (or_else a b) c ≡ or_else a (or_else b c)
-grouped Accepted b c = refl
-grouped (Refused x) b c = refl
+grouped (Ok tt) b c = refl
+grouped (Err x) b c = refl
 
 module _ (i : ℕ) (r : Rule) {c : Checked} {Rest : Refusal → Type 0} where
-  rule_order : (check_rule i r ≡ Accepted → Follows c Rest)
+  rule_order : (check_rule i r ≡ Ok tt → Follows c Rest)
       → Follows (or_else (check_rule i r) c)
       (By (Outside min_window max_window r.m) (bad_rule_bounds i)
       (By (Outside min_hits r.m r.k) (bad_rule_bounds i)
@@ -122,7 +120,7 @@ module _ (i : ℕ) (r : Rule) {c : Checked} {Rest : Refusal → Type 0} where
       range_test min_zone_set max_zone_set r.zones (bad_zone_set i) (λ d. rest (rw (a, b, d)))))))
 
 rules_order : (i : ℕ) (rs : List Rule) {c : Checked} {Rest : Refusal → Type 0}
-    → (check_rules i rs ≡ Accepted → Follows c Rest)
+    → (check_rules i rs ≡ Ok tt → Follows c Rest)
     → Follows (or_else (check_rules i rs) c) (RulesThen i rs Rest)
 unfolding check_rules RulesThen
 rules_order i [] rest = rest refl
@@ -131,7 +129,7 @@ rules_order i (r ∷ rs) {c} rest =
     (rule_order i r (λ a. rules_order (i + 1) rs (λ b. rest (rw (a, b)))))
 
 -- a rule list's check, then the rest
-pub list_then : (l : RuleList) {c : Checked} {Rest : Refusal → Type 0} → (check_of l ≡ Accepted → Follows c Rest)
+pub list_then : (l : RuleList) {c : Checked} {Rest : Refusal → Type 0} → (check_of l ≡ Ok tt → Follows c Rest)
     → Follows (or_else (check_of l) c) (ListThen l Rest)
 unfolding check_of
 list_then l {c} rest =
@@ -193,10 +191,10 @@ chart_then l w largest h k e {c} rest =
   where
     regroup : (a b c d e : Checked) → or_else (or_else a (or_else b (or_else c d))) e
         ≡ or_else a (or_else b (or_else c (or_else d e)))
-    regroup (Refused x) b c d e = refl
-    regroup Accepted (Refused x) c d e = refl
-    regroup Accepted Accepted (Refused x) d e = refl
-    regroup Accepted Accepted Accepted d e = refl
+    regroup (Err x) b c d e = refl
+    regroup (Ok tt) (Err x) c d e = refl
+    regroup (Ok tt) (Ok tt) (Err x) d e = refl
+    regroup (Ok tt) (Ok tt) (Ok tt) d e = refl
 
 pub table_order : (t : TableCall) → Follows (table_check t) (TableOrder t)
 unfolding table_check

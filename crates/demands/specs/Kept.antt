@@ -1,22 +1,17 @@
 -- TO BELIEVE: that a refused call leaves all that was lent to it as it was, one sentence for each operation.
 -- Definitions.
-use Rattle.std.specs.Prelude.{ℕ, ◌≡◌, List, Float, ℤ}
+use Rattle.std.specs.Prelude.{ℕ, ◌≡◌, List, Float, ℤ, Err}
 use Rattle.rules.specs.declared.RuleList.{RuleList}
 use Rattle.rules.specs.declared.refusal.Refusal.{Refusal}
-use Rattle.rules.specs.declared.Checked.TheVariants.{Refused}
 use Rattle.monitor.specs.declared.Monitor.{Monitor}
 use Rattle.monitor.specs.declared.Step.{Step}
 use Rattle.monitor.specs.Step.{step_of}
 use Rattle.monitor.specs.Calls.{monitor_after}
 use Rattle.batch.specs.declared.Batch.{Batch}
 use Rattle.batch.specs.Batch.{batch_of}
-use Rattle.table.specs.declared.TableAnswer.{TableAnswer}
 use Rattle.table.specs.Table.{TableCall, table_of}
-use Rattle.summary.specs.declared.SummaryAnswer.{SummaryAnswer}
 use Rattle.summary.specs.Summary.{summary_of}
-use Rattle.plot.specs.declared.BoxPlotAnswer.{BoxPlotAnswer}
 use Rattle.plot.specs.Plot.{box_plot_of}
-use Rattle.write.specs.declared.ReportAnswer.{ReportAnswer}
 use Rattle.write.specs.Printed.{Printed, report_of}
 use Rattle.table_report.specs.TableReport.{table_printed}
 use Rattle.monitor_report.specs.MonitorReport.{monitor_printed}
@@ -32,24 +27,24 @@ use Rattle.capi.specs.ReportCall.{ReportCall}
 
 -- the buffer of a report that prints p
 abbrev pub ReportKeeps : Printed → Type 0
-ReportKeeps p = (out : List ℕ) (x : Refusal) → (report_of p out).answer ≡ ReportAnswer.Refused x
+ReportKeeps p = (out : List ℕ) (x : Refusal) → (report_of p out).answer ≡ Err x
     → (report_of p out).buffer ≡ out
 
 -- The operations. The check of a rule list, the zone of a reading, the bracket and the weights of a shift are lent
 -- nothing that they could write; a program's output function is not refused, it writes the refusal's line.
 pub record OperationsKeep : Type 0 where
   -- the two lists
-  pub table : (t : TableCall) (x : Refusal) → (table_of t).answer ≡ TableAnswer.Refused x
+  pub table : (t : TableCall) (x : Refusal) → (table_of t).answer ≡ Err x
       → ((table_of t).pmf_list ≡ t.pmf_before) × ((table_of t).survival_list ≡ t.survival_before)
-  pub summary : (t : TableCall) (x : Refusal) → (summary_of t).answer ≡ SummaryAnswer.Refused x
+  pub summary : (t : TableCall) (x : Refusal) → (summary_of t).answer ≡ Err x
       → ((summary_of t).pmf_list ≡ t.pmf_before) × ((summary_of t).survival_list ≡ t.survival_before)
-  pub plot : (t : TableCall) (x : Refusal) → (box_plot_of t).answer ≡ BoxPlotAnswer.Refused x
+  pub plot : (t : TableCall) (x : Refusal) → (box_plot_of t).answer ≡ Err x
       → ((box_plot_of t).pmf_list ≡ t.pmf_before) × ((box_plot_of t).survival_list ≡ t.survival_before)
   -- the monitor that the next call gets
-  pub step : (l : RuleList) (m : Monitor) (z : ℕ) (x : Refusal) → step_of l m z ≡ Step.Refused x
+  pub step : (l : RuleList) (m : Monitor) (z : ℕ) (x : Refusal) → step_of l m z ≡ Err x
       → monitor_after m (step_of l m z) ≡ m
   pub batch : (l : RuleList) (m : Monitor) (centre : ℤ) (sigma : ℕ) (xs : List ℤ) (x : Refusal)
-      → batch_checked (batch_of l m centre sigma xs) ≡ Refused x → (batch_of l m centre sigma xs).next ≡ m
+      → batch_checked (batch_of l m centre sigma xs) ≡ Err x → (batch_of l m centre sigma xs).next ≡ m
   -- the buffer
   pub table_report : (s : List ℕ) → ReportKeeps (table_printed s)
   pub monitor_report : (s : List ℕ) → ReportKeeps (monitor_printed s)

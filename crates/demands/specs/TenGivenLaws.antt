@@ -1,8 +1,7 @@
 -- The states of the rows of four different zones, one rule for each zone. Laws.
-use Rattle.std.specs.Prelude.{ℕ, zero, suc, ◌+◌, ◌*◌, ◌/◌, ◌%◌, ◌^◌, ◌≤◌, ◌<◌, ◌≡◌, refl, Bool, true, false, cond, List, [], ◌∷◌, ltb, eqb, length}
+use Rattle.std.specs.Prelude.{ℕ, zero, suc, ◌+◌, ◌*◌, ◌/◌, ◌%◌, ◌^◌, ◌≤◌, ◌<◌, ◌≡◌, refl, Bool, true, false, cond, List, [], ◌∷◌, ltb, eqb, length, Ok}
 use Rattle.std.proofs.Common.{sym, ap, ◌∙◌, arith, not-suc-le-zero, ltb-true, eqb-true}
 use Rattle.rules.specs.declared.Rule.{Rule}
-use Rattle.rules.specs.declared.Checked.TheVariants.{Accepted}
 use Rattle.rules.specs.Bounds.{zone_count, max_states}
 use Rattle.rules.specs.Check.{check_rules, active_rules, rules_from, check_of}
 use Rattle.rules.specs.Mask.{mask_of}
@@ -140,6 +139,6 @@ module _ (n : ℕ) (many : length (fitting n 0) ≡ max_states + 1) where
 pub ten_given : TooManyStates (active_rules twice_in_nine)
 ten_given = enough_states 2503 enough
 
-pub in_bounds : check_of twice_in_nine ≡ Accepted
+pub in_bounds : check_of twice_in_nine ≡ Ok tt
 unfolding check_of check_rules rules_from
 in_bounds = refl

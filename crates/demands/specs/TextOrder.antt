@@ -1,9 +1,9 @@
 -- TO BELIEVE: the order of the refusals of each program's text, by plain conditions: 17, 16 at its line, and then
 -- what the text says. Definitions.
-use Rattle.std.specs.Prelude.{ℕ, ◌<◌, List, ℤ, length}
+use Rattle.std.specs.Prelude.{ℕ, ◌<◌, ◌≡◌, List, ℤ, length}
 use Rattle.rules.specs.declared.Rule.{Rule}
 use Rattle.rules.specs.declared.refusal.Refusal.{Refusal}
-use Rattle.rules.specs.Refusal.{bad_line, too_long, bad_node}
+use Rattle.rules.specs.Refusal.{number_of, place_of, bad_line, too_long, bad_node}
 use Rattle.grammar.specs.Grammar.{Grammar, Stops}
 use Rattle.grammar.specs.Size.{max_text}
 use Rattle.rule_lines.specs.Rules.{rule_list_of}
@@ -21,6 +21,13 @@ use Rattle.demands.specs.Order.{By, Unrefused, ListThen, SigmaThen, ChartThen, S
 pub data ByPlace (Condition : ℕ → Type 0) (y : ℕ → Refusal) (Rest : Refusal → Type 0) : Refusal → Type 0 where
   here : (place : ℕ) → Condition place → ByPlace Condition y Rest (y place)
   later : {x : Refusal} → ((place : ℕ) → Condition place → ⊥) → Rest x → ByPlace Condition y Rest x
+
+-- a line with this number and this place tells the first refusal of the order that holds
+pub record Told (Order : Refusal → Type 0) (number place : ℕ) : Type 0 where
+  pub refusal : Refusal
+  pub first : Order refusal
+  pub number_is : number ≡ number_of refusal
+  pub place_is : place ≡ place_of refusal
 
 -- any text: 17; 16 at the line where the bytes stop being a text of the grammar; then the rest
 abbrev pub TextThen : Grammar → List ℕ → (Refusal → Type 0) → Refusal → Type 0

@@ -1,12 +1,11 @@
 -- Reading one line and one block more, as the code does. Laws.
 use Prim.Native.Nat.{ℕ, zero, suc, ◌+◌, ◌*◌, ◌≤◌, ◌<◌}
-use Rattle.std.specs.Prelude.{◌≡◌, refl, List, [], ◌∷◌, get_or}
+use Rattle.std.specs.Prelude.{◌≡◌, refl, List, [], ◌∷◌, get_or, Some}
 use native.Mathlib.Omega.{arith}
 use Rattle.std.proofs.Math.ListN.{length}
 use Rattle.std.proofs.Common.{le-leb, ne_eqb}
 use Rattle.std.proofs.lemmas.Bool.{lt-leb}
 use Rattle.std.proofs.Math.Option.{none as nothing, some}
-use Rattle.decimal.specs.declared.word.Found.TheVariants.{At}
 use Rattle.decimal.specs.SpansLaws.{spans_first, spans_within}
 use Rattle.decimal.specs.Word.{word_at}
 use Rattle.decimal.specs.WordLaws.{word_spans, word_absent}
@@ -21,7 +20,7 @@ use Rattle.grammar.specs.FewestBytes.{least}
 use Rattle.grammar.proofs.FormLaws.{Look, looked, form_ahead}
 
 -- where a word stands, no line stands whose word begins with another letter
-pub other_word : (s : List ℕ) (i a p : ℕ) (w : List ℕ) → word_at (a ∷ w) s i ≡ At p → (b : ℕ) (v : List ℕ) (fs : List Field) → (a ≡ b → ⊥)
+pub other_word : (s : List ℕ) (i a p : ℕ) (w : List ℕ) → word_at (a ∷ w) s i ≡ Some p → (b : ℕ) (v : List ℕ) (fs : List Field) → (a ≡ b → ⊥)
     → seen (line (named (b ∷ v) fs)) s i ≡ other
 unfolding seen seen_kind values_at
 other_word s i a p w e b v fs n =
@@ -29,7 +28,7 @@ other_word s i a p w e b v fs n =
     rw (word_absent s i b a v f (ne_eqb a b n))
 
 -- and the text has not ended
-pub word_inside : (s : List ℕ) (i a p : ℕ) (w : List ℕ) → word_at (a ∷ w) s i ≡ At p → i < length s
+pub word_inside : (s : List ℕ) (i a p : ℕ) (w : List ℕ) → word_at (a ∷ w) s i ≡ Some p → i < length s
 word_inside s i a p w e =
     let u = word_spans (a ∷ w) s i p e in
     let t = spans_within (a ∷ w) (omega arith) u in

@@ -1,12 +1,8 @@
 -- A keyword and fields: what is read stands there, what stands there is read, and keywords tell such lines apart. Laws.
-use Rattle.std.specs.Prelude.{ℕ, ◌+◌, ◌*◌, ◌<◌, ◌≤◌, ◌≡◌, length, get_or}
+use Rattle.std.specs.Prelude.{ℕ, ◌+◌, ◌*◌, ◌<◌, ◌≤◌, ◌≡◌, length, get_or, None, Option, Some}
 use Rattle.std.proofs.Math.Path.{refl}
 use Rattle.std.proofs.Common.{ap, inl, arith, length-append}
 use mathlib.Core.List.{List, [], ◌∷◌, ◌++◌, tail, head_d}
-use Rattle.decimal.specs.declared.number.Number.{Number}
-use Rattle.decimal.specs.declared.number.Number.TheVariants.{Value as ANumber, NoNumber}
-use Rattle.decimal.specs.declared.word.Found.{Found}
-use Rattle.decimal.specs.declared.word.Found.TheVariants.{At, Absent}
 use Rattle.decimal.specs.DecimalLaws.{decimal_some, signed_some}
 use Rattle.decimal.specs.Spans.{Spans}
 use Rattle.decimal.specs.SpansLaws.{spans_then, spans_front, spans_back, spans_first}
@@ -38,9 +34,9 @@ module _ (s : List ℕ) where
   unfolding value_at
   value_is number p = go (field_at s p) refl
     where
-      go : (x : Number) → field_at s p ≡ x → ValueIs number p (on_number x found other)
-      go (ANumber n j) e = field_is s p n j e
-      go NoNumber e = tt
+      go : (x : Option (ℕ × ℕ)) → field_at s p ≡ x → ValueIs number p (on_number x found other)
+      go (Some (n , j)) e = field_is s p n j e
+      go None e = tt
   value_is signed p = go (signed_field_at s p) refl
     where
       go : (x : Signed) → signed_field_at s p ≡ x → ValueIs signed p (on_signed x found other)
@@ -55,9 +51,9 @@ module _ (s : List ℕ) where
   unfolding values_from values_bytes ValuesFit
   values_are [] p = go (word_at newline s p) refl
     where
-      go : (x : Found) → word_at newline s p ≡ x → ValuesAre [] p (on_found x (λ next. found tt next) other)
-      go (At next) e = (word_spans newline s p next e, tt)
-      go Absent e = tt
+      go : (x : Option ℕ) → word_at newline s p ≡ x → ValuesAre [] p (on_found x (λ next. found tt next) other)
+      go (Some next) e = (word_spans newline s p next e, tt)
+      go None e = tt
   values_are (f ∷ fs) p = go (value_at f s p) (value_is f p) (λ e. values_are fs e)
     where
       behind : (x : Value f) (e : ℕ) → Spans s p (value_bytes f x) e × ValueFits f x → (y : Seen (Values fs)) → ValuesAre fs e y
@@ -83,9 +79,9 @@ module _ (s : List ℕ) where
       behind p u (found x next) r = (spans_then u r.0, r.1)
       behind p u other r = tt
 
-      go : (x : Found) → word_at w s at ≡ x → WordValuesAre w fs at (on_found x (values_from fs s) other)
-      go (At p) e = behind p (word_spans w s at p e) (values_from fs s p) (values_are fs p)
-      go Absent e = tt
+      go : (x : Option ℕ) → word_at w s at ≡ x → WordValuesAre w fs at (on_found x (values_from fs s) other)
+      go (Some p) e = behind p (word_spans w s at p e) (values_from fs s p) (values_are fs p)
+      go None e = tt
 
 -- ---- what stands there is read
 

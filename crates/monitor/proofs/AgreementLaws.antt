@@ -1,17 +1,16 @@
 -- The monitor and the plain chart agree over every list of calls; which rules a mask names; which calls are refused. Laws.
-use Rattle.std.specs.Prelude.{◌≡◌, Bool, true, false, cond, ℕ, zero, suc, ◌+◌, ◌/◌, ◌%◌, ◌^◌, ◌≤◌, ◌<◌, ltb, eqb, length, get_or}
+use Rattle.std.specs.Prelude.{◌≡◌, Bool, true, false, cond, ℕ, zero, suc, ◌+◌, ◌/◌, ◌%◌, ◌^◌, ◌≤◌, ◌<◌, ltb, eqb, length, get_or, Ok}
 use Rattle.std.proofs.Math.Path.{refl}
 use Rattle.std.proofs.Common.{ap, ◌∙◌, ⊎_elim, eq-zero-or-pos, arith}
 use mathlib.Core.List.{List, [], ◌∷◌, map}
 use Rattle.rules.specs.declared.Rule.{Rule}
 use Rattle.rules.specs.declared.RuleList.{RuleList}
-use Rattle.rules.specs.declared.Checked.TheVariants.{Accepted}
 use Rattle.rules.specs.Bounds.{zone_count, max_number}
 use Rattle.rules.specs.Check.{no_rule, active_rules, check_of}
 use Rattle.rules.proofs.CheckLaws.{accepted}
 use Rattle.rules.specs.Mask.{bit}
 use Rattle.rules.specs.MaskLaws.{mask_digit}
-use Rattle.rules.specs.Refusal.{bad_state, bad_zone, bad_count}
+use Rattle.rules.specs.Refusal.{number_of, bad_state, bad_zone, bad_count}
 use Rattle.monitor.specs.declared.Monitor.{Monitor}
 use Rattle.monitor.specs.Step.{fresh_monitor}
 use Rattle.monitor.proofs.StepLaws.{rules_accepted}
@@ -23,7 +22,7 @@ use Rattle.window.proofs.RowLaws.{empty_row_mask}
 
 -- ---- agreement
 
-module _ (l : RuleList) (a : check_of l ≡ Accepted) where
+module _ (l : RuleList) (a : check_of l ≡ Ok tt) where
   agree_from : (zs row : List ℕ) → row_mask (active_rules l) row ≡ 0 → monitor_answers l (monitor_of_row (active_rules l) row) zs ≡ chart_answers (active_rules l) row zs
   unfolding monitor_answers chart_answers
   agree_from [] row e = refl
@@ -58,23 +57,23 @@ mask_names_rules rs row i h = mask_digit (map (rule_holds row) rs) i ∙ ap bit 
 -- ---- which calls are refused
 
 -- the chart refuses by 6 and 7 alone
-not_five : (rs : List Rule) (row : List ℕ) (z : ℕ) → refusal_number (chart_step rs row z).answer ≡ bad_state.number → ⊥
+not_five : (rs : List Rule) (row : List ℕ) (z : ℕ) → refusal_number (chart_step rs row z).answer ≡ (number_of bad_state) → ⊥
 unfolding chart_step
 not_five rs row z = go (ltb z zone_count) (ltb (length row) max_number) (eqb (row_mask rs (z ∷ row)) 0)
   where
-    go : (zone count quiet-here : Bool) → refusal_number (cond zone (cond count (cond quiet-here (charted (quiet (length (z ∷ row))) (z ∷ row)) (charted (signal (length (z ∷ row)) (row_mask rs (z ∷ row))) [])) (charted (refused bad_count.number) row)) (charted (refused bad_zone.number) row)).answer ≡ bad_state.number → ⊥
+    go : (zone count quiet-here : Bool) → refusal_number (cond zone (cond count (cond quiet-here (charted (quiet (length (z ∷ row))) (z ∷ row)) (charted (signal (length (z ∷ row)) (row_mask rs (z ∷ row))) [])) (charted (refused (number_of bad_count)) row)) (charted (refused (number_of bad_zone)) row)).answer ≡ (number_of bad_state) → ⊥
     go true true true e = omega arith
     go true true false e = omega arith
     go true false t e = omega arith
     go false s t e = omega arith
 
-never_five : (rs : List Rule) (row zs : List ℕ) → EachAnswer (λ a. refusal_number a ≡ bad_state.number → ⊥) (chart_answers rs row zs)
+never_five : (rs : List Rule) (row zs : List ℕ) → EachAnswer (λ a. refusal_number a ≡ (number_of bad_state) → ⊥) (chart_answers rs row zs)
 unfolding chart_answers EachAnswer
 never_five rs row [] = tt
 never_five rs row (z ∷ zs) = (not_five rs row z, never_five rs (chart_step rs row z).row zs)
 
 -- No call in such a list gets 5: the state that the last call returned can always be given again.
-pub no_call_gets_5 : (l : RuleList) → check_of l ≡ Accepted → (zs : List ℕ) → EachAnswer (λ a. refusal_number a ≡ bad_state.number → ⊥) (monitor_answers l fresh_monitor zs)
+pub no_call_gets_5 : (l : RuleList) → check_of l ≡ Ok tt → (zs : List ℕ) → EachAnswer (λ a. refusal_number a ≡ (number_of bad_state) → ⊥) (monitor_answers l fresh_monitor zs)
 no_call_gets_5 l a zs = rw (monitor_agrees l a zs) (never_five (active_rules l) [] zs)
 
 -- a zone that exists on a row that is not full is taken, and the row grows by one at most
@@ -97,5 +96,5 @@ all_taken rs row (z ∷ zs) p q =
     (t.said, all_taken rs (chart_step rs row z).row zs p.1 (omega (arith, t.grows)))
 
 -- In a list of at most 2^32 - 1 calls whose zones all exist no call is refused: each is answered quiet or signal.
-pub no_refused_call : (l : RuleList) → check_of l ≡ Accepted → (zs : List ℕ) → AllBelow zone_count zs → length zs ≤ max_number → EachAnswer Said (monitor_answers l fresh_monitor zs)
+pub no_refused_call : (l : RuleList) → check_of l ≡ Ok tt → (zs : List ℕ) → AllBelow zone_count zs → length zs ≤ max_number → EachAnswer Said (monitor_answers l fresh_monitor zs)
 no_refused_call l a zs p q = rw (monitor_agrees l a zs) (all_taken (active_rules l) [] zs p (omega arith))

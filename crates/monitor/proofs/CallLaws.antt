@@ -1,11 +1,12 @@
 -- One call: a monitor that stands where the reference chart's row leads answers as the chart does, and stands there again after the call.
-use Rattle.std.specs.Prelude.{◌≡◌, refl, true, List, [], ◌∷◌, ℕ, suc, ◌≤◌, ◌<◌, length}
+use Rattle.std.specs.Prelude.{◌≡◌, refl, true, List, [], ◌∷◌, ℕ, suc, ◌≤◌, ◌<◌, length, Result}
 use Rattle.std.proofs.Common.{sym, ap, ◌∙◌, ⊎_elim, eq-zero-or-pos, add-one, arith}
 use borrow.Author.Tests.{lt-ltb, le-ltb, eq-eqb, ne_eqb}
 use Rattle.rules.specs.declared.Rule.{Rule}
+use Rattle.rules.specs.declared.refusal.Refusal.{Refusal}
 use Rattle.rules.specs.Bounds.{zone_count, max_number}
 use Rattle.rules.specs.InBounds.{AllInBounds}
-use Rattle.rules.specs.Refusal.{bad_zone, bad_count}
+use Rattle.rules.specs.Refusal.{number_of, bad_zone, bad_count}
 use Rattle.monitor.specs.declared.Monitor.{Monitor}
 use Rattle.monitor.specs.declared.Step.{Step}
 use Rattle.window.specs.WindowLaws.{le_or_lt}
@@ -20,12 +21,12 @@ use Rattle.window.proofs.RowLaws.{valid_of_row, mask_of_row, next_of_row, empty_
 -- ---- the chart's four cases
 
 module _ (rs : List Rule) (row : List ℕ) (z : ℕ) where
-  chart_bad_zone : zone_count ≤ z → chart_step rs row z ≡ charted (refused bad_zone.number) row
+  chart_bad_zone : zone_count ≤ z → chart_step rs row z ≡ charted (refused (number_of bad_zone)) row
   unfolding chart_step
   chart_bad_zone h = rw (le-ltb z zone_count h)
 
   module _ (zone : z < zone_count) where
-    chart_bad_count : max_number ≤ length row → chart_step rs row z ≡ charted (refused bad_count.number) row
+    chart_bad_count : max_number ≤ length row → chart_step rs row z ≡ charted (refused (number_of bad_count)) row
     unfolding chart_step
     chart_bad_count q = rw (lt-ltb z zone_count zone, le-ltb (length row) max_number q)
 
@@ -46,7 +47,7 @@ pub fresh_of_row : (rs : List Rule) → fresh_monitor ≡ monitor_of_row rs []
 fresh_of_row rs = rw (empty_row_state rs)
 
 -- the answers agree, the monitor is then the one of the chart's row, and no rule holds on that row
-pub record CallAgrees (rs : List Rule) (row : List ℕ) (s : Step) (t : Charted) : Type 0 where
+pub record CallAgrees (rs : List Rule) (row : List ℕ) (s : Result Step Refusal) (t : Charted) : Type 0 where
   pub answer : answer_of s ≡ t.answer
   pub after : monitor_after (monitor_of_row rs row) s ≡ monitor_of_row rs t.row
   pub quiet_row : row_mask rs t.row ≡ 0

@@ -1,13 +1,12 @@
 -- A state stays one that can be given, so points can be taken one after another with no check between them: the answers are those of the
 -- steps.
-use Rattle.std.specs.Prelude.{◌≡◌, true, ℕ, ◌+◌, ◌≤◌, ◌<◌, length}
+use Rattle.std.specs.Prelude.{◌≡◌, true, ℕ, ◌+◌, ◌≤◌, ◌<◌, length, Ok}
 use Rattle.std.proofs.Math.Path.{refl}
 use Rattle.std.proofs.Math.Logic.{⊎_elim}
 use mathlib.Core.List.{List, [], ◌∷◌}
 use Rattle.std.proofs.Common.{eq-zero-or-pos, arith}
 use Rattle.rules.specs.declared.Rule.{Rule}
 use Rattle.rules.specs.declared.RuleList.{RuleList}
-use Rattle.rules.specs.declared.Checked.TheVariants.{Accepted}
 use Rattle.rules.specs.Bounds.{zone_count, max_number}
 use Rattle.rules.specs.Check.{active_rules, check_of}
 use Rattle.rules.proofs.CheckLaws.{accepted}
@@ -33,7 +32,7 @@ taken_valid rs p m z zone v =
 
 -- ---- a list of points
 
-module _ (l : RuleList) (a : check_of l ≡ Accepted) where
+module _ (l : RuleList) (a : check_of l ≡ Ok tt) where
   -- from a monitor that can be given, zones that exist and room in the count: taking the points answers as stepping does
   pub taken_answers_lem : (m : Monitor) → valid_state m.count (active_rules l) m.state ≡ true → (zs : List ℕ) → AllBelow zone_count zs → m.count + length zs ≤ max_number → monitor_answers l m zs ≡ taken_answers (active_rules l) m zs
   unfolding monitor_answers taken_answers AllBelow

@@ -1,18 +1,16 @@
 -- TO BELIEVE: the monitor's step. Refusals in the order 2, 3, 4; 6; 5; 7. Definitions.
-use Rattle.std.specs.Prelude.{ℕ, ◌+◌, List, ltb}
+use Rattle.std.specs.Prelude.{ℕ, ◌+◌, List, ltb, Err, Ok, Result}
 use Rattle.rules.specs.declared.Rule.{Rule}
 use Rattle.rules.specs.declared.RuleList.{RuleList}
-use Rattle.rules.specs.declared.Checked.{Checked}
-use Rattle.rules.specs.declared.Checked.TheVariants.{Accepted}
+use Rattle.rules.specs.declared.refusal.Refusal.{Refusal}
 use Rattle.rules.specs.Bounds.{zone_count, max_number}
 use Rattle.rules.specs.Refusal.{bad_state, bad_zone, bad_count}
-use Rattle.rules.specs.Check.{or_else, unless, check_of, active_rules}
+use Rattle.rules.specs.Check.{Checked, or_else, unless, check_of, active_rules}
 use Rattle.window.specs.State.{empty_state, valid_state, move_of}
 use Rattle.window.specs.declared.Move.{Move}
 use Rattle.window.specs.declared.Move.TheVariants.{Quiet, Signal}
 use Rattle.monitor.specs.declared.Monitor.{Monitor}
 use Rattle.monitor.specs.declared.Step.{Step}
-use Rattle.monitor.specs.declared.Step.TheVariants.{Refused}
 
 -- the monitor with this state and count
 abbrev pub monitor_at : ℕ → ℕ → Monitor
@@ -44,13 +42,13 @@ abbrev pub step_check : RuleList → Monitor → ℕ → Checked
 step_check l m z = or_else (check_of l) (point_check (active_rules l) m z)
 
 -- the refusal, else the answer
-abbrev pub step_by : Checked → Step → Step
-step_by Accepted answer = answer
-step_by (Checked.Refused x) answer = Refused x
+abbrev pub step_by : Checked → Step → Result Step Refusal
+step_by (Ok tt) answer = Ok answer
+step_by (Err x) answer = Err x
 
 -- a step with rules that are accepted
-unfoldable pub accepted_step : List Rule → Monitor → ℕ → Step
+unfoldable pub accepted_step : List Rule → Monitor → ℕ → Result Step Refusal
 accepted_step rs m z = step_by (point_check rs m z) (moved_step rs m z)
 
-unfoldable pub step_of : RuleList → Monitor → ℕ → Step
+unfoldable pub step_of : RuleList → Monitor → ℕ → Result Step Refusal
 step_of l m z = step_by (step_check l m z) (moved_step (active_rules l) m z)

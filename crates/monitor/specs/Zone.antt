@@ -1,9 +1,8 @@
 -- TO BELIEVE: the zone of a reading. Definitions.
-use Rattle.std.specs.Prelude.{ℕ, zero, suc, ◌*◌, cond, leb, ℤ, pos, negsuc, ◌-ℤ◌}
+use Rattle.std.specs.Prelude.{ℕ, zero, suc, ◌*◌, cond, leb, ℤ, pos, negsuc, ◌-ℤ◌, Err, Ok, Result}
+use Rattle.rules.specs.declared.refusal.Refusal.{Refusal}
 use Rattle.rules.specs.Check.{within}
 use Rattle.rules.specs.Refusal.{bad_sigma}
-use Rattle.monitor.specs.declared.zone.ZoneAnswer.{ZoneAnswer}
-use Rattle.monitor.specs.declared.zone.ZoneAnswer.TheVariants.{Zone, Refused}
 
 -- document 01's bounds of the step d
 abbrev pub min_sigma : ℕ
@@ -49,5 +48,5 @@ zone_at (pos (suc n)) sigma = band sigma (suc n) zone_c1 zone_b1 zone_a1
 zone_at (negsuc n) sigma = band sigma (suc n) zone_c2 zone_b2 zone_a2
 
 -- 1 where sigma is out of bounds, else the zone at t = reading - centre, exact over the integers
-unfoldable pub zone_of : ℤ → ℤ → ℕ → ZoneAnswer
-zone_of reading centre sigma = cond (within min_sigma max_sigma sigma) (Zone (zone_at (reading -ℤ centre) sigma)) (Refused bad_sigma)
+unfoldable pub zone_of : ℤ → ℤ → ℕ → Result ℕ Refusal
+zone_of reading centre sigma = cond (within min_sigma max_sigma sigma) (Ok (zone_at (reading -ℤ centre) sigma)) (Err bad_sigma)

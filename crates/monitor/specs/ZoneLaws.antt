@@ -1,5 +1,5 @@
 -- Laws of the offset of a reading: two signed numbers, each 2^31 higher, have the same difference.
-use Rattle.std.specs.Prelude.{◌≡◌, refl, Bool, true, false, cond, ℕ, zero, suc, ◌+◌, ◌-◌, ◌*◌, ◌<◌, ◌^◌, ℤ, pos, negsuc, ◌+ℤ◌, ◌-ℤ◌, neg_ℤ, leb}
+use Rattle.std.specs.Prelude.{◌≡◌, refl, Bool, true, false, cond, ℕ, zero, suc, ◌+◌, ◌-◌, ◌*◌, ◌<◌, ◌^◌, ℤ, pos, negsuc, ◌+ℤ◌, ◌-ℤ◌, neg_ℤ, leb, Err, Ok}
 use Rattle.std.proofs.Common.{sym, ap, ◌∙◌, arith, ne_of_lt, lt-ltb, le-ltb}
 use Rattle.std.proofs.Math.IntN.{neg_ℤ-+ℤ, +ℤ_assoc, +ℤ_comm, +ℤ_invr, +ℤ_idl}
 use Rattle.std.specs.Int.Signed.{mag}
@@ -7,7 +7,6 @@ use Rattle.rules.specs.Bounds.{zone_count}
 use Rattle.rules.specs.Check.{within}
 use Rattle.rules.specs.Refusal.{bad_sigma}
 use Rattle.monitor.specs.Zone.{min_sigma, max_sigma, zone_s, zone_a1, zone_b1, zone_c1, zone_c2, zone_b2, zone_a2, zone_c0, band, zone_at, zone_of}
-use Rattle.monitor.specs.declared.zone.ZoneAnswer.TheVariants.{Zone, Refused}
 
 -- a signed number of 32 bits, 2^31 higher, is no number below 0
 pub raised : (z : ℤ) → mag z < 2 ^ 31 → (n : ℕ) × (z +ℤ pos 2147483648 ≡ pos n) × (n < 2 ^ 32)
@@ -61,11 +60,11 @@ module _ (reading centre : ℤ) (a b sigma : ℕ) (ea : pos a ≡ reading +ℤ p
 
 module _ (reading centre : ℤ) (sigma : ℕ) where
   pub zone_fits : within min_sigma max_sigma sigma ≡ true
-      → zone_of reading centre sigma ≡ Zone (zone_at (reading -ℤ centre) sigma)
+      → zone_of reading centre sigma ≡ Ok (zone_at (reading -ℤ centre) sigma)
   unfolding zone_of
   zone_fits e = rw e
 
-  pub zone_refused : within min_sigma max_sigma sigma ≡ false → zone_of reading centre sigma ≡ Refused bad_sigma
+  pub zone_refused : within min_sigma max_sigma sigma ≡ false → zone_of reading centre sigma ≡ Err bad_sigma
   unfolding zone_of
   zone_refused e = rw e
 

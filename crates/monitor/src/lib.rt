@@ -9,7 +9,7 @@ ghost use Rattle.window.specs.State.{valid_state};
 ghost use Rattle.monitor.specs.Step.{accepted_step, fresh_monitor, step_of};
 ghost use Rattle.monitor.specs.Take.{taken_of};
 
-use rules::{Checked, MAX_NUMBER, Refusal, RuleList, ZONES};
+use rules::{MAX_NUMBER, Refusal, RuleList, ZONES};
 use window::Move;
 
 mod chart;
@@ -29,7 +29,6 @@ pub struct Monitor {
 // What a step answers: the count with this point in it, the mask of all rules that hold, and the monitor for the next point.
 #[derive(Clone, Copy)]
 pub enum Step {
-    Refused(Refusal),
     Quiet {
         count: u32,
         next: Monitor,
@@ -80,48 +79,35 @@ impl Monitor {
     }
 
     // A step with rules that are accepted: 6, 5, 7, or the answer.
-    fn accepted_step(self, list: RuleList, zone: u32) -> Step
+    fn accepted_step(self, list: RuleList, zone: u32) -> Result<Step, Refusal>
         requires { (list.len ≤ max_rules) × AllInBounds (active_rules list) }
         ensures { result ≡ accepted_step (active_rules list) self zone }
     {
         if zone >= ZONES as u32 {
-            return Step::Refused(Refusal {
-                number: Refusal::ZONE,
-                place: 0,
-            });
+            return Err(Refusal::Zone);
         }
         if !self.valid(list) {
-            return Step::Refused(Refusal {
-                number: Refusal::STATE,
-                place: 0,
-            });
+            return Err(Refusal::State);
         }
-        let points = self.count;
-        if points >= MAX_NUMBER {
-            return Step::Refused(Refusal {
-                number: Refusal::COUNT,
-                place: 0,
-            });
+        if self.count >= MAX_NUMBER {
+            return Err(Refusal::Count);
         }
-        let count = points + 1;
+        let count = self.count + 1;
         match self.take(list, zone) {
-            Taken::Quiet(next) => Step::Quiet { count, next },
-            Taken::Signal(mask) => Step::Signal {
+            Taken::Quiet(next) => Ok(Step::Quiet { count, next }),
+            Taken::Signal(mask) => Ok(Step::Signal {
                 count,
                 mask,
                 next: Monitor::fresh(),
-            },
+            }),
         }
     }
 
     // One point: refused by 2, 3, 4; 6; 5; 7, in this order; else quiet or signal.
-    pub fn step(self, list: RuleList, zone: u32) -> Step
+    pub fn step(self, list: RuleList, zone: u32) -> Result<Step, Refusal>
         ensures { result ≡ step_of list self zone }
     {
-        let checked = list.check();
-        match checked {
-            Checked::Refused(refusal) => Step::Refused(refusal),
-            Checked::Accepted => self.accepted_step(list, zone),
-        }
+        list.check()?;
+        self.accepted_step(list, zone)
     }
 }

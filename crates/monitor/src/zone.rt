@@ -6,12 +6,6 @@ ghost use Rattle.monitor.specs.Zone.{zone_of, zone_at, band, min_sigma, max_sigm
 use crate::chart::Chart;
 use rules::Refusal;
 
-#[derive(Clone, Copy)]
-pub enum ZoneAnswer {
-    Zone(u32),
-    Refused(Refusal),
-}
-
 // The zones by number.
 pub const ZONE_S: u32 = 0;
 
@@ -78,14 +72,11 @@ pub fn zone_at(reading: i32, centre: i32, sigma: u32) -> u32
 }
 
 // The zone of a reading on a chart with this centre and sigma: refused by 1 where sigma is out of bounds.
-pub fn zone_of(reading: i32, centre: i32, sigma: u32) -> ZoneAnswer
+pub fn zone_of(reading: i32, centre: i32, sigma: u32) -> Result<u32, Refusal>
     ensures { result ≡ zone_of reading centre sigma }
 {
     if !sigma_fits(sigma) {
-        return ZoneAnswer::Refused(Refusal {
-            number: Refusal::SIGMA,
-            place: 0,
-        });
+        return Err(Refusal::Sigma);
     }
-    ZoneAnswer::Zone(zone_at(reading, centre, sigma))
+    Ok(zone_at(reading, centre, sigma))
 }

@@ -1,6 +1,6 @@
 -- CLAIMS: the monitor program's text. It is accepted exactly where it is the lines of a chart, rules and points of the bench's nodes, and it then
 -- gives these; where it stops being one it is refused by 16, there, and at the first point of no node by 19.
-use Rattle.std.specs.Prelude.{ℕ, ◌+◌, ◌≤◌, ◌<◌, ◌≡◌, List, ◌∷◌, ℤ, length}
+use Rattle.std.specs.Prelude.{ℕ, ◌+◌, ◌≤◌, ◌<◌, ◌≡◌, List, ◌∷◌, ℤ, length, Ok, Err}
 use Rattle.std.proofs.Common.{arith}
 use Rattle.rules.specs.declared.Rule.{Rule}
 use Rattle.rules.specs.Bounds.{max_rules}
@@ -14,10 +14,11 @@ use Rattle.grammar.proofs.LinesLaws.{newlines_all}
 use Rattle.grammar.specs.Read.{wrong}
 use Rattle.grammar.specs.Read.{too_long_lem as beyond}
 use Rattle.grammar.proofs.EveryGrammar.{is_reading}
+use Rattle.monitor_text.specs.declared.monitors.MonitorText.{MonitorText}
 use Rattle.monitor_text.specs.Readings.{NodeReading, OnBench}
 use Rattle.monitor_text.specs.MonitorGrammar.{monitor_grammar, monitor_contents}
 use Rattle.monitor_text.specs.MonitorText.{monitor_of, monitor_text, monitor_points}
-use Rattle.monitor_text.specs.ReadMonitor.{refused_monitor, read_monitor}
+use Rattle.monitor_text.specs.ReadMonitor.{read_monitor}
 use Rattle.monitor_text.specs.MonitorTextLaws.{clear_monitor}
 use Rattle.monitor_claims.specs.MonitorTexts.{MonitorTextIs, OffBench, MonitorReading}
 use Rattle.monitor_claims.proofs.MonitorBytesLaws.{front_fits}
@@ -41,12 +42,12 @@ monitor_reading = monitor_reading_proved
 
 -- A text that is these lines, with points of the bench's nodes, is read as its chart, its rules and its points.
 pub monitor_read : {s : List ℕ} {c : ℤ} {d : ℕ} {rs : List Rule} {ps : List NodeReading} → MonitorTextIs s c d rs ps → OnBench ps
-    → (at : ℕ) × (monitor_text s ≡ read_monitor c d rs at) × (monitor_points s ≡ ps)
+    → (at : ℕ) × (monitor_text s ≡ Ok (read_monitor c d rs at)) × (monitor_points s ≡ ps)
 monitor_read = monitor_read_proved
 
 -- A text with a point whose node is none of the bench's is refused by 19, at the first such point.
 pub monitor_off_bench : {s : List ℕ} {c : ℤ} {d : ℕ} {rs : List Rule} {place : ℕ} → OffBench s c d rs place
-    → monitor_text s ≡ refused_monitor (bad_node place)
+    → monitor_text s ≡ Err (bad_node place)
 monitor_off_bench = monitor_off_bench_proved
 
 -- A text is the lines of at most one chart, one list of rules and one list of points.
@@ -55,22 +56,22 @@ pub monitor_text_once : {s : List ℕ} {c c' : ℤ} {d d' : ℕ} {rs rs' : List 
     → (c ≡ c') × (d ≡ d') × (rs ≡ rs') × (ps ≡ ps')
 monitor_text_once = monitor_text_once_proved
 
--- A text is accepted, by the number 0, exactly where it is the lines of a chart, rules and points of the bench's nodes: then it gives these.
-pub monitor_accepted : (s : List ℕ) → (monitor_text s).refusal.number ≡ 0
+-- A text is accepted exactly where it is the lines of a chart, rules and points of the bench's nodes: then it gives these.
+pub monitor_accepted : (s : List ℕ) (t : MonitorText) → monitor_text s ≡ Ok t
     → (c : ℤ) × (d : ℕ) × (rs : List Rule) × (ps : List NodeReading) × MonitorTextIs s c d rs ps × OnBench ps
 monitor_accepted = monitor_accepted_proved
 
 -- The same by the equations with what is read, for the rules that a list has slots for.
 pub monitor_exactly : {s : List ℕ} {c : ℤ} {d : ℕ} {rs : List Rule} (at : ℕ) {ps : List NodeReading} → length rs ≤ max_rules
-    → monitor_text s ≡ read_monitor c d rs at → monitor_points s ≡ ps → MonitorTextIs s c d rs ps × OnBench ps
+    → monitor_text s ≡ Ok (read_monitor c d rs at) → monitor_points s ≡ ps → MonitorTextIs s c d rs ps × OnBench ps
 monitor_exactly = monitor_exactly_proved
 
 -- Bytes that stop being a text at a line are refused by 16, with that line as the place.
-pub monitor_stopped : {s : List ℕ} {place : ℕ} → length s ≤ max_text → Stops monitor_grammar s place → monitor_text s ≡ refused_monitor (bad_line place)
+pub monitor_stopped : {s : List ℕ} {place : ℕ} → length s ≤ max_text → Stops monitor_grammar s place → monitor_text s ≡ Err (bad_line place)
 unfolding monitor_text monitor_of
 monitor_stopped {s} l st = rw (is_reading monitor_grammar clear_monitor s (wrong l st))
 
 -- Longer bytes than a text may have are refused by 17.
-pub monitor_too_long : (s : List ℕ) → max_text < length s → monitor_text s ≡ refused_monitor too_long
+pub monitor_too_long : (s : List ℕ) → max_text < length s → monitor_text s ≡ Err too_long
 unfolding monitor_text monitor_of
 monitor_too_long s l = rw (is_reading monitor_grammar clear_monitor s (beyond l))

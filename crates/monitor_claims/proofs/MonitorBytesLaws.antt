@@ -1,7 +1,8 @@
 -- The monitor program's text by its contents. Laws.
-use Rattle.std.specs.Prelude.{ℕ, ◌+◌, ◌≤◌, ◌<◌, ◌≡◌, refl, Bool, true, false, cond, List, [], ◌∷◌, ◌++◌, ltb, ℤ, length}
+use Rattle.std.specs.Prelude.{ℕ, ◌+◌, ◌≤◌, ◌<◌, ◌≡◌, refl, Bool, true, false, cond, List, [], ◌∷◌, ◌++◌, ltb, ℤ, length, Result, Ok, Err}
 use Rattle.std.proofs.Common.{sym, ap, ◌∙◌, arith, length-append, ltb-true, ltb-false, lt-ltb}
 use Rattle.rules.specs.declared.Rule.{Rule}
+use Rattle.rules.specs.declared.refusal.Refusal.{Refusal}
 use Rattle.rules.specs.Bounds.{max_rules}
 use Rattle.rules.specs.Check.{active_rules}
 use Rattle.rules.specs.Refusal.{bad_node}
@@ -23,8 +24,8 @@ use Rattle.monitor_text.specs.Readings.{NodeReading, OnBench, bench_points}
 use Rattle.monitor_text.specs.ReadingsLaws.{all_bench, first_off, off_place}
 use Rattle.monitor_text.specs.MonitorGrammar.{point_line, monitor_grammar, point_values, points_said, monitor_contents}
 use Rattle.monitor_text.specs.PointLineLaws.{said_values, values_said}
-use Rattle.monitor_text.specs.MonitorText.{bench_or, monitor_of, monitor_text, monitor_points, points_at}
-use Rattle.monitor_text.specs.ReadMonitor.{refused_monitor, read_monitor, points_from}
+use Rattle.monitor_text.specs.MonitorText.{points_in, bench_or, monitor_of, monitor_text, monitor_points, points_at}
+use Rattle.monitor_text.specs.ReadMonitor.{read_monitor, points_from}
 use Rattle.monitor_text.specs.MonitorTextLaws.{clear_monitor}
 use Rattle.monitor_text.specs.AcceptedLaws.{bench_read, points_again}
 use Rattle.monitor_claims.specs.MonitorTexts.{MonitorTextIs, OffBench, MonitorReading, too_long_lem, stopped, off_bench, read}
@@ -112,16 +113,16 @@ module _ (s : List ℕ) (short : length s ≤ max_text) (c : Contents monitor_gr
       }
 
   benched : (b : Bool) → ltb (bench_points (points_of_text c)) (length (points_of_text c)) ≡ b
-      → MonitorReading s (cond b (refused_monitor (bad_node (2 + length c.1.0 + bench_points (points_of_text c))))
-      (read_monitor c.0.0 c.0.1.0 (rules_of_text c) (points_from c.0 c.1.0)))
+      → MonitorReading s (cond b (Err (bad_node (2 + length c.1.0 + bench_points (points_of_text c))))
+      (Ok (read_monitor c.0.0 c.0.1.0 (rules_of_text c) (points_from c.0 c.1.0))))
   benched true e = off_bench c.0.0 c.0.1.0 (rules_of_text c) _ (off (ltb-true _ _ e))
   benched false e =
       put (rules-again c.1.0)
       (read c.0.0 c.0.1.0 (rules_of_text c) (points_of_text c) (monitor_is c t short) (all_bench (points_of_text c) (ltb-false _ _ e)))
     where
       put : {xs ys : List (Says rule_line)} → xs ≡ ys
-          → MonitorReading s (read_monitor c.0.0 c.0.1.0 (rules_of_text c) (points_from c.0 xs))
-          → MonitorReading s (read_monitor c.0.0 c.0.1.0 (rules_of_text c) (points_from c.0 ys))
+          → MonitorReading s (Ok (read_monitor c.0.0 c.0.1.0 (rules_of_text c) (points_from c.0 xs)))
+          → MonitorReading s (Ok (read_monitor c.0.0 c.0.1.0 (rules_of_text c) (points_from c.0 ys)))
       put q r = rw (← q) r
 
 -- Every text is refused by 17; or by 16, at the line where it stops being one; or by 19, at the first point whose node is none of the bench's; or it
@@ -138,7 +139,7 @@ monitor_reading s = go (read_text monitor_grammar s) (reading_is monitor_grammar
 -- ---- the lines of a chart, rules and points are read back
 
 pub monitor_read : {s : List ℕ} {c : ℤ} {d : ℕ} {rs : List Rule} {ps : List NodeReading} → MonitorTextIs s c d rs ps → OnBench ps
-    → (at : ℕ) × (monitor_text s ≡ read_monitor c d rs at) × (monitor_points s ≡ ps)
+    → (at : ℕ) × (monitor_text s ≡ Ok (read_monitor c d rs at)) × (monitor_points s ≡ ps)
 unfolding read_monitor
 monitor_read {s} {c} {d} {rs} {ps} t o =
     let all = monitor_contents c d rs ps in
@@ -147,13 +148,13 @@ monitor_read {s} {c} {d} {rs} {ps} t o =
     let at = points_from (c, (d, tt)) (rule_values rs) in
     let given = bench_read s all e bench in (
       at,
-      given ∙ ap (λ (l : List Rule). read_monitor c d l at) (rules-back rs),
-      ap (λ (m : MonitorText). points_at s m.points) given ∙ points_again s all e ∙ said_values ps,
+      given ∙ ap (λ (l : List Rule). Ok (read_monitor c d l at)) (rules-back rs),
+      ap (points_in s) given ∙ points_again s all e ∙ said_values ps,
     )
 
 -- A text with a point whose node is none of the bench's is refused by 19, at the first such point.
 pub monitor_off_bench : {s : List ℕ} {c : ℤ} {d : ℕ} {rs : List Rule} {place : ℕ} → OffBench s c d rs place
-    → monitor_text s ≡ refused_monitor (bad_node place)
+    → monitor_text s ≡ Err (bad_node place)
 unfolding monitor_text monitor_of bench_or
 monitor_off_bench {s} {c} {d} {rs} {place} o =
     let ps : List NodeReading = o.before ++ (o.point ∷ o.after) in
@@ -175,27 +176,27 @@ monitor_text_once {s} {c} {c'} {d} {d'} {rs} {rs'} {ps} {ps'} t t' =
       sym (said_values ps) ∙ ap points_of_text e ∙ said_values ps',
     )
 
--- A text is accepted, by the number 0, exactly where it is the lines of a chart, rules and points of the bench's nodes: then it gives these.
-pub monitor_accepted : (s : List ℕ) → (monitor_text s).refusal.number ≡ 0
+-- A text is accepted exactly where it is the lines of a chart, rules and points of the bench's nodes: then it gives these.
+pub monitor_accepted : (s : List ℕ) (t : MonitorText) → monitor_text s ≡ Ok t
     → (c : ℤ) × (d : ℕ) × (rs : List Rule) × (ps : List NodeReading) × MonitorTextIs s c d rs ps × OnBench ps
-unfolding refused_monitor
-monitor_accepted s z = go (monitor_text s) (monitor_reading s) z
+monitor_accepted s t z = go (monitor_text s) (monitor_reading s) z
   where
-    go : (t : MonitorText) → MonitorReading s t → t.refusal.number ≡ 0
+    go : (y : Result MonitorText Refusal) → MonitorReading s y → y ≡ Ok t
         → (c : ℤ) × (d : ℕ) × (rs : List Rule) × (ps : List NodeReading) × MonitorTextIs s c d rs ps × OnBench ps
-    go t (too_long_lem l) z = absurd (omega arith)
-    go t (stopped place l st) z = absurd (omega arith)
-    go t (off_bench c d rs place o) z = absurd (omega arith)
-    go t (read c d rs ps i o) z = (c, d, rs, ps, i, o)
+    go y (too_long_lem l) z = absurd (let z : ◌≡◌ {A = ℕ} 0 1 = cc in omega arith)
+    go y (stopped place l st) z = absurd (let z : ◌≡◌ {A = ℕ} 0 1 = cc in omega arith)
+    go y (off_bench c d rs place o) z = absurd (let z : ◌≡◌ {A = ℕ} 0 1 = cc in omega arith)
+    go y (read c d rs ps i o) z = (c, d, rs, ps, i, o)
 
 -- The same by the equations with what is read, for the rules that a list has slots for.
 pub monitor_exactly : {s : List ℕ} {c : ℤ} {d : ℕ} {rs : List Rule} (at : ℕ) {ps : List NodeReading} → length rs ≤ max_rules
-    → monitor_text s ≡ read_monitor c d rs at → monitor_points s ≡ ps → MonitorTextIs s c d rs ps × OnBench ps
+    → monitor_text s ≡ Ok (read_monitor c d rs at) → monitor_points s ≡ ps → MonitorTextIs s c d rs ps × OnBench ps
 unfolding read_monitor rule_list_of
 monitor_exactly {s} {c} {d} {rs} at {ps} few e points =
-    let a = monitor_accepted s (ap (λ (t : MonitorText). t.refusal.number) e) in
+    let a = monitor_accepted s (read_monitor c d rs at) e in
     let r = monitor_read a.4 a.5 in
-    let same : read_monitor a.0 a.1 a.2 r.0 ≡ read_monitor c d rs at = sym r.1 ∙ e in
+    let both : ◌≡◌ {A = Result MonitorText Refusal} (Ok (read_monitor a.0 a.1 a.2 r.0)) (Ok (read_monitor c d rs at)) = sym r.1 ∙ e in
+    let same : read_monitor a.0 a.1 a.2 r.0 ≡ read_monitor c d rs at = cc in
     let cs : a.0 ≡ c = ap (λ (t : MonitorText). t.centre) same in
     let ds : a.1 ≡ d = ap (λ (t : MonitorText). t.sigma) same in
     let count : length a.2 ≡ length rs = ap (λ (t : MonitorText). t.list.len) same in

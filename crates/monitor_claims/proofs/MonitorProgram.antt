@@ -1,7 +1,6 @@
 -- CLAIM: the monitor program, for every text, of the bytes that its output function's contract names.
-use Rattle.std.specs.Prelude.{ℕ, ◌≤◌, ◌≡◌, List, ℤ}
+use Rattle.std.specs.Prelude.{ℕ, ◌≤◌, ◌≡◌, List, ℤ, Ok}
 use Rattle.rules.specs.declared.Rule.{Rule}
-use Rattle.rules.specs.declared.Checked.TheVariants.{Accepted}
 use Rattle.rules.specs.Check.{check_of}
 use Rattle.monitor.specs.Zone.{min_sigma, max_sigma}
 use Rattle.rule_lines.specs.Rules.{rule_list_of}
@@ -19,6 +18,6 @@ monitor_program = monitor_program_proved
 
 -- The other way round: a text that is the lines of a chart, rules and points which are in bounds is not refused.
 pub monitor_printed_lem : {s : List ℕ} {c : ℤ} {d : ℕ} {rs : List Rule} {ps : List NodeReading} → MonitorTextIs s c d rs ps → OnBench ps
-    → check_of (rule_list_of rs) ≡ Accepted
+    → check_of (rule_list_of rs) ≡ Ok tt
     → (min_sigma ≤ d) × (d ≤ max_sigma) → MonitorPrints c d rs ps (printed_bytes (monitor_printed s))
 monitor_printed_lem = monitor_printed_proved

@@ -1,15 +1,13 @@
 -- What the monitor program prints, case by case. Laws.
-use Rattle.std.specs.Prelude.{ℕ, ◌≤◌, ◌≡◌, Bool, cond, List, [], ◌∷◌, eqb, ℤ, length}
+use Rattle.std.specs.Prelude.{ℕ, ◌≤◌, ◌≡◌, Bool, cond, List, [], ◌∷◌, eqb, ℤ, length, Err, Ok, Result}
 use Rattle.std.proofs.Math.Path.{refl}
 use Rattle.std.proofs.Common.{sym, ap, ◌∙◌, arith, le-leb}
 use Rattle.std.proofs.Math.Bool.{true, false}
 use Rattle.rules.specs.declared.Rule.{Rule}
 use Rattle.rules.specs.declared.RuleList.{RuleList}
 use Rattle.rules.specs.declared.refusal.Refusal.{Refusal}
-use Rattle.rules.specs.declared.Checked.{Checked}
-use Rattle.rules.specs.declared.Checked.TheVariants.{Accepted, Refused}
-use Rattle.rules.specs.Refusal.{bad_sigma}
-use Rattle.rules.specs.Check.{within, or_else, unless, active_rules, check_of}
+use Rattle.rules.specs.Refusal.{place_of, number_of, bad_sigma}
+use Rattle.rules.specs.Check.{Checked, within, or_else, unless, active_rules, check_of}
 use Rattle.rules.proofs.CheckLaws.{between}
 use Rattle.rules.proofs.NumbersLaws.{list_number}
 use Rattle.monitor.specs.Zone.{min_sigma, max_sigma}
@@ -23,12 +21,12 @@ use Rattle.monitor_text.specs.Readings.{NodeReading, OnBench, readings_of}
 use Rattle.rule_lines.specs.RulesLaws.{active_rules_lem, rules_few}
 use Rattle.monitor_text.specs.ReadingsLaws.{readings_few}
 use Rattle.monitor_text.specs.PointLineLaws.{points_fit}
-use Rattle.monitor_text.specs.MonitorText.{monitor_text, monitor_points}
-use Rattle.monitor_text.specs.ReadMonitor.{refused_monitor, read_monitor}
+use Rattle.monitor_text.specs.MonitorText.{monitor_text, points_at, points_in}
+use Rattle.monitor_text.specs.ReadMonitor.{read_monitor}
 use Rattle.write.specs.Printed.{printed_by, printed_bytes}
 use Rattle.monitor_report.specs.Points.{bench_bytes}
 use Rattle.monitor.specs.Zones.{zones_of}
-use Rattle.monitor_report.specs.MonitorReport.{reading_answers, monitor_check, monitor_printed}
+use Rattle.monitor_report.specs.MonitorReport.{reading_answers, monitor_check, bench_of, monitor_printed}
 use Rattle.monitor_report.proofs.MonitorReportLaws.{bytes_same}
 use Rattle.monitor.specs.ZonesLaws.{zones_exist, zones_length}
 use Rattle.claims.specs.Exact.{free_answers}
@@ -48,7 +46,7 @@ free_said rs (z ∷ zs) row = (go (eqb (row_mask rs (z ∷ row)) 0), free_said r
     go true = tt
     go false = tt
 
-module _ (l : RuleList) (ok : check_of l ≡ Accepted) (centre : ℤ) (sigma : ℕ) where
+module _ (l : RuleList) (ok : check_of l ≡ Ok tt) (centre : ℤ) (sigma : ℕ) where
   -- a fresh monitor answers few readings as the plain chart does
   free : (xs : List ℤ) → length xs ≤ max_number → reading_answers l centre sigma xs ≡ plain_chart (active_rules l) centre sigma xs
   free xs few = monitor_free l ok (zones_of centre sigma xs) (zones_exist centre sigma xs) (omega (arith, zones_length centre sigma xs))
@@ -81,7 +79,7 @@ module _ (s : List ℕ) (centre : ℤ) (sigma : ℕ) (rs : List Rule) (ps : List
   shown : List ℕ
   shown = bench_bytes (reading_answers (rule_list_of rs) centre sigma) ps
 
-  by_sigma : check_of (rule_list_of rs) ≡ Accepted → (t : Bool) → within min_sigma max_sigma sigma ≡ t
+  by_sigma : check_of (rule_list_of rs) ≡ Ok tt → (t : Bool) → within min_sigma max_sigma sigma ≡ t
       → MonitorProgram s (printed_bytes (printed_by (unless t bad_sigma) shown))
   unfolding printed_bytes shown
   by_sigma ok true e =
@@ -92,44 +90,49 @@ module _ (s : List ℕ) (centre : ℤ) (sigma : ℕ) (rs : List Rule) (ps : List
   by_check : (c : Checked) → check_of (rule_list_of rs) ≡ c
       → MonitorProgram s (printed_bytes (printed_by (or_else c (unless (within min_sigma max_sigma sigma) bad_sigma)) shown))
   unfolding printed_bytes
-  by_check Accepted e = by_sigma e (within min_sigma max_sigma sigma) refl
-  by_check (Refused x) e = monitor-refuses x.number x.place refl (bad_rules centre sigma rs ps x is o e (list_number (rule_list_of rs) x e))
+  by_check (Ok tt) e = by_sigma e (within min_sigma max_sigma sigma) refl
+  by_check (Err x) e = monitor-refuses (number_of x) (place_of x) refl (bad_rules centre sigma rs ps x is o e (list_number (rule_list_of rs) x e))
 
 -- a text has few points
 text_few : {s : List ℕ} {centre : ℤ} {sigma : ℕ} {rs : List Rule} {ps : List NodeReading} → MonitorTextIs s centre sigma rs ps → OnBench ps
     → length ps ≤ max_number
+unfolding read_monitor
 text_few {s} {centre} {sigma} {rs} {ps} t o =
     let m = monitor_read t o in
-    omega (arith, points_fit (length s) s (monitor_text s).points, ap length m.2, t.short)
+    let points : points_at s m.0 ≡ ps = sym (ap (points_in s) m.1) ∙ m.2 in
+    omega (arith, points_fit (length s) s m.0, ap length points, t.short)
 
 -- For every text: one refusal line, with the number and the place of a reason that holds of the text; or the text is the lines of a chart, rules
 -- and points of the bench's nodes, and what is printed is exactly the lines of each node's plain chart on that node's readings, and the totals.
 pub monitor_program : (s : List ℕ) → MonitorProgram s (printed_bytes (monitor_printed s))
-unfolding monitor_printed printed_bytes refused_monitor read_monitor shown
-monitor_program s = go (monitor_text s) (monitor_reading s) (monitor_points s) (λ c d rs ps i o. (monitor_read i o).2)
+unfolding monitor_printed printed_bytes read_monitor shown
+monitor_program s = go (monitor_text s) (monitor_reading s) (λ c d rs ps i o. (monitor_read i o).2)
   where
-    go : (t : MonitorText) → MonitorReading s t → (qs : List NodeReading)
-        → ((c : ℤ) (d : ℕ) (rs : List Rule) (ps : List NodeReading) → MonitorTextIs s c d rs ps → OnBench ps → qs ≡ ps)
-        → MonitorProgram s (printed_bytes (printed_by (monitor_check t) (bench_bytes (reading_answers t.list t.centre t.sigma) qs)))
-    go t (too_long_lem l) qs f = monitor-refuses 17 0 refl (monitor_too_long l)
-    go t (stopped place l st) qs f = monitor-refuses 16 place refl (monitor-bad-line place l st)
-    go t (off_bench c d rs place o) qs f = monitor-refuses 19 place refl (bad_node_lem c d rs place o)
-    go t (read c d rs ps i o) qs f = rw (f c d rs ps i o) (by_check s c d rs ps i o (text_few i o) (check_of (rule_list_of rs)) refl)
+    go : (t : Result MonitorText Refusal) → MonitorReading s t
+        → ((c : ℤ) (d : ℕ) (rs : List Rule) (ps : List NodeReading) → MonitorTextIs s c d rs ps → OnBench ps → points_in s t ≡ ps)
+        → MonitorProgram s (printed_bytes (printed_by (monitor_check t) (bench_of s t)))
+    go t (too_long_lem l) f = monitor-refuses 17 0 refl (monitor_too_long l)
+    go t (stopped place l st) f = monitor-refuses 16 place refl (monitor-bad-line place l st)
+    go t (off_bench c d rs place o) f = monitor-refuses 19 place refl (bad_node_lem c d rs place o)
+    go t (read c d rs ps i o) f = rw (f c d rs ps i o) (by_check s c d rs ps i o (text_few i o) (check_of (rule_list_of rs)) refl)
 
 -- The other way round: a text that is the lines of a chart, rules and points which are in bounds is not refused.
 pub monitor_printed_lem : {s : List ℕ} {c : ℤ} {d : ℕ} {rs : List Rule} {ps : List NodeReading} → MonitorTextIs s c d rs ps → OnBench ps
-    → check_of (rule_list_of rs) ≡ Accepted
+    → check_of (rule_list_of rs) ≡ Ok tt
     → (min_sigma ≤ d) × (d ≤ max_sigma) → MonitorPrints c d rs ps (printed_bytes (monitor_printed s))
-unfolding refused_monitor read_monitor
+unfolding read_monitor
 monitor_printed_lem {s} {c} {d} {rs} {ps} is o ok bounds = go (monitor_program s)
   where
-    clash : {A : Type 0} {t : MonitorText} → monitor_text s ≡ t → (t.refusal.number ≡ 0 → ⊥) → A
-    clash e n = absurd (n (ap (λ (t : MonitorText). t.refusal.number) (sym e ∙ (monitor_read is o).1)))
+    clash : {A : Type 0} {x : Refusal} → monitor_text s ≡ Err x → A
+    clash {A} {x} e =
+        let m = monitor_read is o in
+        let same : ◌≡◌ {A = Result MonitorText Refusal} (Err x) (Ok (read_monitor c d rs m.0)) = sym e ∙ m.1 in
+        absurd (let z : ◌≡◌ {A = ℕ} 0 1 = cc in omega arith)
 
     checked : {c' : ℤ} {d' : ℕ} {rs' : List Rule} {ps' : List NodeReading} {x : Refusal} → MonitorTextIs s c' d' rs' ps'
-        → check_of (rule_list_of rs') ≡ Refused x → ⊥
+        → check_of (rule_list_of rs') ≡ Err x → ⊥
     checked {c'} {d'} {rs'} {ps'} {x} is' e =
-        let q : check_of (rule_list_of rs) ≡ Refused x = rw (monitor_text_once is is').2 e in
+        let q : check_of (rule_list_of rs) ≡ Err x = rw (monitor_text_once is is').2 e in
         let z : ◌≡◌ {A = ℕ} 0 1 = cc in
         omega arith
 
@@ -138,9 +141,9 @@ monitor_printed_lem {s} {c} {d} {rs} {ps} is o ok bounds = go (monitor_program s
     put p q r t m = rw (← p, ← q, ← r, ← t) m
 
     go : MonitorProgram s (printed_bytes (monitor_printed s)) → MonitorPrints c d rs ps (printed_bytes (monitor_printed s))
-    go (monitor-refuses n p e (monitor_too_long l)) = clash (text-too-long s l) (λ z. omega arith)
-    go (monitor-refuses n p e (monitor-bad-line place l st)) = clash (monitor_stopped l st) (λ z. omega arith)
-    go (monitor-refuses n p e (bad_node_lem c' d' rs' place off)) = clash (monitor_off_bench off) (λ z. omega arith)
+    go (monitor-refuses n p e (monitor_too_long l)) = clash (text-too-long s l)
+    go (monitor-refuses n p e (monitor-bad-line place l st)) = clash (monitor_stopped l st)
+    go (monitor-refuses n p e (bad_node_lem c' d' rs' place off)) = clash (monitor_off_bench off)
     go (monitor-refuses n p e (bad_rules c' d' rs' ps' x is' o' q r)) = absurd (checked is' q)
     go (monitor-refuses n p e (bad_sigma_lem c' d' rs' ps' is' o' q b)) = absurd (b (rw (← (monitor_text_once is is').1) bounds))
     go (monitor_prints c' d' rs' ps' is' o' q b m) =

@@ -1,10 +1,9 @@
 -- TO BELIEVE: what the monitor program's printed bytes are claimed to be: one refusal line and its reason, or the lines of what the plain chart of
 -- each node says. Definitions.
-use Rattle.std.specs.Prelude.{ℕ, ◌≤◌, ◌<◌, ◌≡◌, List, [], ℤ, length, ◌∷◌}
+use Rattle.std.specs.Prelude.{ℕ, ◌≤◌, ◌<◌, ◌≡◌, List, [], ℤ, length, ◌∷◌, Err, Ok}
 use Rattle.rules.specs.declared.Rule.{Rule}
 use Rattle.rules.specs.declared.refusal.Refusal.{Refusal}
-use Rattle.rules.specs.declared.Checked.TheVariants.{Accepted, Refused}
-use Rattle.rules.specs.Refusal.{bad_sigma, bad_line, too_long, bad_node}
+use Rattle.rules.specs.Refusal.{place_of, number_of, bad_sigma, bad_line, too_long, bad_node}
 use Rattle.rules.specs.Check.{check_of}
 use Rattle.rules.specs.Numbers.{OneOf, rule_numbers}
 use Rattle.monitor.specs.Zone.{min_sigma, max_sigma}
@@ -47,18 +46,18 @@ pub record MonitorPrints (centre : ℤ) (sigma : ℕ) (rs : List Rule) (ps : Lis
   pub said : (node : ℕ) → EachAnswer Said (plain_chart rs centre sigma (readings_of node ps))
 
 pub data MonitorRefusal (s : List ℕ) : ℕ → ℕ → Type 0 where
-  too_long_lem : max_text < length s → MonitorRefusal s too_long.number 0
-  bad_line_lem : (place : ℕ) → length s ≤ max_text → Stops monitor_grammar s place → MonitorRefusal s (bad_line place).number place
-  bad_node_lem : (centre : ℤ) (sigma : ℕ) (rs : List Rule) (place : ℕ) → OffBench s centre sigma rs place → MonitorRefusal s (bad_node place).number place
+  too_long_lem : max_text < length s → MonitorRefusal s (number_of too_long) 0
+  bad_line_lem : (place : ℕ) → length s ≤ max_text → Stops monitor_grammar s place → MonitorRefusal s (number_of (bad_line place)) place
+  bad_node_lem : (centre : ℤ) (sigma : ℕ) (rs : List Rule) (place : ℕ) → OffBench s centre sigma rs place → MonitorRefusal s (number_of (bad_node place)) place
   bad_rules : (centre : ℤ) (sigma : ℕ) (rs : List Rule) (ps : List NodeReading) (x : Refusal) → MonitorTextIs s centre sigma rs ps → OnBench ps
-      → check_of (rule_list_of rs) ≡ Refused x → OneOf rule_numbers x.number → MonitorRefusal s x.number x.place
+      → check_of (rule_list_of rs) ≡ Err x → OneOf rule_numbers (number_of x) → MonitorRefusal s (number_of x) (place_of x)
   bad_sigma_lem : (centre : ℤ) (sigma : ℕ) (rs : List Rule) (ps : List NodeReading) → MonitorTextIs s centre sigma rs ps → OnBench ps
-      → check_of (rule_list_of rs) ≡ Accepted → ((min_sigma ≤ sigma) × (sigma ≤ max_sigma) → ⊥) → MonitorRefusal s bad_sigma.number 0
+      → check_of (rule_list_of rs) ≡ Ok tt → ((min_sigma ≤ sigma) × (sigma ≤ max_sigma) → ⊥) → MonitorRefusal s (number_of bad_sigma) 0
 
 pub data MonitorProgram (s : List ℕ) (printed : List ℕ) : Type 0 where
   refuses : (number place : ℕ) → printed ≡ refused_line number place → MonitorRefusal s number place → MonitorProgram s printed
   prints : (centre : ℤ) (sigma : ℕ) (rs : List Rule) (ps : List NodeReading) → MonitorTextIs s centre sigma rs ps → OnBench ps
-      → check_of (rule_list_of rs) ≡ Accepted → (min_sigma ≤ sigma) × (sigma ≤ max_sigma)
+      → check_of (rule_list_of rs) ≡ Ok tt → (min_sigma ≤ sigma) × (sigma ≤ max_sigma)
       → MonitorPrints centre sigma rs ps printed → MonitorProgram s printed
 
 -- ---- the monitor's lines
@@ -70,7 +69,7 @@ EachSaid (a ∷ rest) = Said a.answer × EachSaid rest
 
 -- the numbers that a text is refused by
 abbrev pub monitor_numbers : List ℕ
-monitor_numbers = too_long.number ∷ (bad_line 0).number ∷ (bad_node 0).number ∷ bad_sigma.number ∷ rule_numbers
+monitor_numbers = number_of too_long ∷ number_of (bad_line 0) ∷ number_of (bad_node 0) ∷ number_of bad_sigma ∷ rule_numbers
 
 -- ---- from bytes to bytes
 

@@ -1,7 +1,8 @@
 -- TO BELIEVE: what it is for bytes to be a monitor text, which point of one is none of the bench's, and what is read of bytes. Nothing here reads.
 -- Definitions.
-use Rattle.std.specs.Prelude.{ℕ, ◌+◌, ◌≤◌, ◌<◌, ◌≡◌, List, ◌∷◌, ◌++◌, ℤ, length}
+use Rattle.std.specs.Prelude.{ℕ, ◌+◌, ◌≤◌, ◌<◌, ◌≡◌, List, ◌∷◌, ◌++◌, ℤ, length, Result, Ok, Err}
 use Rattle.rules.specs.declared.Rule.{Rule}
+use Rattle.rules.specs.declared.refusal.Refusal.{Refusal}
 use Rattle.rules.specs.Refusal.{bad_line, too_long, bad_node}
 use Rattle.grammar.specs.Size.{max_text}
 use Rattle.grammar.specs.Grammar.{lines_of, TextIs, Stops}
@@ -9,7 +10,7 @@ use Rattle.rule_lines.specs.Rules.{rule_values}
 use Rattle.monitor_text.specs.declared.monitors.MonitorText.{MonitorText}
 use Rattle.monitor_text.specs.Readings.{NodeReading, node_count, OnBench}
 use Rattle.monitor_text.specs.MonitorGrammar.{monitor_grammar, monitor_contents}
-use Rattle.monitor_text.specs.ReadMonitor.{refused_monitor, read_monitor, points_from}
+use Rattle.monitor_text.specs.ReadMonitor.{read_monitor, points_from}
 
 -- s is the monitor text of this chart, these rules and these points, whatever their nodes: their lines, one behind the other, and nothing else, every
 -- number within 32 bits
@@ -28,10 +29,10 @@ pub record OffBench (s : List ℕ) (centre : ℤ) (sigma : ℕ) (rs : List Rule)
   pub line : place ≡ 1 + length (lines_of monitor_grammar (monitor_contents centre sigma rs before))
 
 -- what is read of a text: 17; or 16, at the line where it stops being one; then 19; or all of it, and where the points begin
-pub data MonitorReading (s : List ℕ) : MonitorText → Type 0 where
-  too_long_lem : max_text < length s → MonitorReading s (refused_monitor too_long)
-  stopped : (place : ℕ) → length s ≤ max_text → Stops monitor_grammar s place → MonitorReading s (refused_monitor (bad_line place))
+pub data MonitorReading (s : List ℕ) : Result MonitorText Refusal → Type 0 where
+  too_long_lem : max_text < length s → MonitorReading s (Err too_long)
+  stopped : (place : ℕ) → length s ≤ max_text → Stops monitor_grammar s place → MonitorReading s (Err (bad_line place))
   off_bench : (centre : ℤ) (sigma : ℕ) (rs : List Rule) (place : ℕ) → OffBench s centre sigma rs place
-      → MonitorReading s (refused_monitor (bad_node place))
+      → MonitorReading s (Err (bad_node place))
   read : (centre : ℤ) (sigma : ℕ) (rs : List Rule) (ps : List NodeReading) → MonitorTextIs s centre sigma rs ps → OnBench ps
-      → MonitorReading s (read_monitor centre sigma rs (points_from (centre, (sigma, tt)) (rule_values rs)))
+      → MonitorReading s (Ok (read_monitor centre sigma rs (points_from (centre, (sigma, tt)) (rule_values rs))))

@@ -1,6 +1,6 @@
 -- What the monitor program prints, case by case; and that none of its points is refused.
 use Prim.Native.Nat.{ℕ, zero, suc, ◌+◌, ◌*◌, ◌≤◌}
-use Rattle.std.specs.Prelude.{◌≡◌, true, false, ℤ}
+use Rattle.std.specs.Prelude.{◌≡◌, true, false, ℤ, Err, Ok}
 use Rattle.std.proofs.Math.Path.{refl}
 use mathlib.Core.List.{List, [], ◌∷◌, ◌++◌}
 use Rattle.std.proofs.Common.{arith}
@@ -8,9 +8,7 @@ use Rattle.std.proofs.Math.ListN.{length, length-append}
 use borrow.Author.Tests.{eq-eqb, ne_eqb}
 use Rattle.rules.specs.declared.RuleList.{RuleList}
 use Rattle.rules.specs.declared.refusal.Refusal.{Refusal}
-use Rattle.rules.specs.declared.Checked.{Checked}
-use Rattle.rules.specs.declared.Checked.TheVariants.{Accepted}
-use Rattle.rules.specs.Check.{active_rules, check_of, within}
+use Rattle.rules.specs.Check.{Checked, active_rules, check_of, within}
 use Rattle.rules.proofs.CheckLaws.{accepted}
 use Rattle.rules.specs.Refusal.{bad_sigma}
 use Rattle.monitor.specs.Zone.{min_sigma, max_sigma}
@@ -30,7 +28,6 @@ use Rattle.monitor_text.specs.ReadingsLaws.{readings_few}
 use Rattle.monitor_text.specs.MonitorText.{points_at, monitor_text}
 use Rattle.monitor_text.specs.PointLineLaws.{points_fit}
 use Rattle.monitor_text.specs.AcceptedLaws.{ReadMonitor, read_monitor_lem}
-use Rattle.write.specs.declared.ReportAnswer.TheVariants.{Written, Refused}
 use Rattle.write.specs.Printed.{report, report_of}
 use Rattle.write.proofs.PrintedLaws.{as_written}
 use Rattle.monitor_report.specs.Points.{min_point, bench_answers, bench_totals, bench_bytes}
@@ -41,7 +38,7 @@ use Rattle.monitor_report.specs.MonitorReport.{reading_answers, monitor_printed}
 
 -- ---- the points' answers
 
-module _ (l : RuleList) (a : check_of l ≡ Accepted) (centre : ℤ) (sigma : ℕ) (xs : List ℤ) (few : length xs ≤ max_number) where
+module _ (l : RuleList) (a : check_of l ≡ Ok tt) (centre : ℤ) (sigma : ℕ) (xs : List ℤ) (few : length xs ≤ max_number) where
   -- with accepted rules no point is refused: each is quiet or a signal, and has a line
   pub no_point_refused : EachAnswer Said (reading_answers l centre sigma xs)
   no_point_refused = no_refused_call l a (zones_of centre sigma xs) (zones_exist centre sigma xs) (omega (arith, zones_length centre sigma xs))
@@ -74,41 +71,41 @@ module _ {chart chart' : List ℤ → List Answer} {n : ℕ} (same : (xs : List 
 
 -- ---- the report of a text
 
-module _ (s out : List ℕ) (t : MonitorText) (is : t ≡ monitor_text s) where
-  pub monitor_refused : (t.refusal.number ≡ 0 → ⊥) → report (Refused t.refusal) out ≡ report_of (monitor_printed s) out
+module _ (s out : List ℕ) where
+  pub monitor_refused : (x : Refusal) → monitor_text s ≡ Err x → report (Err x) out ≡ report_of (monitor_printed s) out
   unfolding monitor_printed
-  monitor_refused n = rw (← is, ne_eqb t.refusal.number 0 n)
+  monitor_refused x e = rw e
 
-  module _ (read : t.refusal.number ≡ 0) where
-    pub rules_refused : (x : Refusal) → check_of t.list ≡ Checked.Refused x → report (Refused x) out ≡ report_of (monitor_printed s) out
+  module _ {t : MonitorText} (read : monitor_text s ≡ Ok t) where
+    pub rules_refused : (x : Refusal) → check_of t.list ≡ Err x → report (Err x) out ≡ report_of (monitor_printed s) out
     unfolding monitor_printed
-    rules_refused x e = rw (← is, eq-eqb t.refusal.number 0 read, e)
+    rules_refused x e = rw (read, e)
 
-    module _ (ok : check_of t.list ≡ Accepted) where
-      pub sigma_refused : within min_sigma max_sigma t.sigma ≡ false → report (Refused bad_sigma) out ≡ report_of (monitor_printed s) out
+    module _ (ok : check_of t.list ≡ Ok tt) where
+      pub sigma_refused : within min_sigma max_sigma t.sigma ≡ false → report (Err bad_sigma) out ≡ report_of (monitor_printed s) out
       unfolding monitor_printed
-      sigma_refused h = rw (← is, eq-eqb t.refusal.number 0 read, ok, h)
+      sigma_refused h = rw (read, ok, h)
 
       module _ (fits : within min_sigma max_sigma t.sigma ≡ true) where
-        text_read : ReadMonitor s
-        text_read = read_monitor_lem s (rw (← is) read)
+        text_read : ReadMonitor s t
+        text_read = read_monitor_lem s t read
 
         pub text_short : length s ≤ max_text
         text_short = text_read.short
 
         pub points_bench : OnBench (points_at s t.points)
-        points_bench = rw (is, text_read.points) text_read.bench
+        points_bench = rw text_read.points text_read.bench
 
         pub points_few : min_point * length (points_at s t.points) ≤ length s
         points_few = points_fit (length s) s t.points
 
         pub points_written : {centre : ℤ} → centre ≡ t.centre → (out' : List ℕ) (r : ℕ)
             → Wrote out 0 out' r (bench_bytes (taken_chart (active_rules t.list) centre t.sigma) (points_at s t.points))
-            → report (Written r) out' ≡ report_of (monitor_printed s) out
+            → report (Ok r) out' ≡ report_of (monitor_printed s) out
         unfolding monitor_printed
         points_written {centre} c out' r w =
             let ps : List NodeReading = points_at s t.points in
             let taken = taken_one_by_one t.list ok t.centre t.sigma in
             let bytes = bytes_same {n = max_number} taken ps (omega (arith, points_few, text_short)) in
             as_written {p = monitor_printed s} out out' r
-            (rw (← is, eq-eqb t.refusal.number 0 read, ok, fits, bytes)) (rw c at w)
+            (rw (read, ok, fits, bytes)) (rw c at w)

@@ -7,37 +7,24 @@ use crate::MONITOR_SIZE;
 use crate::points::put_points;
 use monitor::Chart;
 use monitor::zone::sigma_fits;
-use rules::{Checked, Refusal};
-use write::{ReportAnswer, put_answer};
+use rules::Refusal;
+use write::put_answer;
 
 // The monitor program's lines for a text, in the lent buffer; or the refusal, with the buffer as it was: 17; 16; 19; then 2, 3, 4; then 1,
 // also where there are no points.
-pub fn monitor_report(text: &[u8], out: &mut [u8; MONITOR_SIZE]) -> ReportAnswer
+pub fn monitor_report(text: &[u8], out: &mut [u8; MONITOR_SIZE]) -> Result<usize, Refusal>
     ensures { report result out.new ≡ report_of (monitor_printed text.now) out.old }
 {
-    let read = monitor_text::monitor_text(text);
-    let refusal = read.refusal;
-    if refusal.number != 0 {
-        return ReportAnswer::Refused(refusal);
-    }
-    let list = read.list;
-    match list.check() {
-        Checked::Refused(r) => return ReportAnswer::Refused(r),
-        Checked::Accepted => (),
-    }
-    let sigma = read.sigma;
-    if !sigma_fits(sigma) {
-        return ReportAnswer::Refused(Refusal {
-            number: Refusal::SIGMA,
-            place: 0,
-        });
+    let read = monitor_text::monitor_text(text)?;
+    read.list.check()?;
+    if !sigma_fits(read.sigma) {
+        return Err(Refusal::Sigma);
     }
     let chart = Chart {
         centre: read.centre,
-        sigma,
+        sigma: read.sigma,
     };
-    let n = put_points(out, text, read.points, list, chart);
-    ReportAnswer::Written(n)
+    Ok(put_points(out, text, read.points, read.list, chart))
 }
 
 // The monitor program's output, from the buffer's start; what is behind it is kept.

@@ -13,7 +13,7 @@ ghost use Rattle.monitor_report.specs.Points.{bench_bytes};
 ghost use Rattle.monitor_report.specs.Nodes.{taken_chart};
 
 use crate::nodes::{chart_point, fresh_node, put_totals};
-use decimal::{Found, signed_value};
+use decimal::signed_value;
 use monitor::Chart;
 use monitor::zone::zone_at;
 use monitor_lines::put_point;
@@ -41,19 +41,16 @@ pub(crate) fn put_points(
     let mut i = at;
     let mut end = 0;
     loop {
-        let read = line_at(text, i, b"point", b"ns");
-        let behind = read.next;
-        let Found::At(next) = behind else {
+        let Some(read) = line_at(text, i, b"point", b"ns") else {
             return put_totals(out, end, nodes);
         };
-        let values = read.values;
-        let node = values[0];
-        let zone = zone_at(signed_value(values[1]), chart.centre, chart.sigma);
+        let node = read.values[0];
+        let zone = zone_at(signed_value(read.values[1]), chart.centre, chart.sigma);
         let point = chart_point(node, nodes[node as usize], list, zone);
         let line = point.line;
         let next_node = point.next;
         end = put_point(out, end, line);
         nodes[node as usize] = next_node;
-        i = next;
+        i = read.next;
     }
 }

@@ -1,5 +1,5 @@
 -- The cases of the monitor program's text, each as its return meets it. Laws.
-use Rattle.std.specs.Prelude.{ℕ, ◌+◌, ◌≤◌, ◌<◌, ◌≡◌, ℤ}
+use Rattle.std.specs.Prelude.{ℕ, ◌+◌, ◌≤◌, ◌<◌, ◌≡◌, ℤ, None, Some}
 use Rattle.std.proofs.Math.Path.{refl, ap}
 use Rattle.std.proofs.Common.{sym, ◌∙◌, arith, length-append, le-leb, lt-ltb, le-ltb}
 use mathlib.Core.List.{List, [], ◌∷◌, append-nil}
@@ -7,7 +7,6 @@ use Rattle.std.proofs.Math.ListN.{length, get_or}
 use Rattle.std.proofs.lemmas.Bool.{lt-leb}
 use Rattle.rules.specs.declared.RuleList.{RuleList}
 use Rattle.rules.specs.Refusal.{not_refused, bad_line, too_long, bad_node}
-use Rattle.decimal.specs.declared.word.Found.TheVariants.{At, Absent}
 use Rattle.decimal.specs.Signed.{lowered}
 use Rattle.decimal.specs.SignedLaws.{lowered_raised}
 use Rattle.grammar.specs.LineValues.{number, signed, ValuesFit}
@@ -72,7 +71,7 @@ abbrev given_monitor : ℤ → ℕ → RuleList → ℕ → MonitorText
 given_monitor centre sigma l at = record { refusal = not_refused; centre = centre; sigma = sigma; list = l; points = at }
 
 module _ (s : List ℕ) (short : length s ≤ max_text) {f : LineRead} (fe : f ≡ line_read_at chart_word (signed ∷ number ∷ []) s 0) where
-  pub other_first : f.next ≡ Absent → refused_monitor (bad_line 1) ≡ monitor_text s
+  pub other_first : f.next ≡ None → refused_monitor (bad_line 1) ≡ monitor_text s
   unfolding monitor_of read_text
   other_first q =
       let b : read_text monitor_grammar s ≡ stopped 1 =
@@ -80,7 +79,7 @@ module _ (s : List ℕ) (short : length s ≤ max_text) {f : LineRead} (fe : f �
       (read_other (line chart_line) (many rule_line ∷ many point_line ∷ []) s 0 1 (line_none chart_word (signed ∷ number ∷ []) s 0 fe q)) in
       of_reading s b
 
-  module _ {at : ℕ} (q : f.next ≡ At at) {r : RulesRead} (re : r ≡ rules_read s at 2) where
+  module _ {at : ℕ} (q : f.next ≡ Some at) {r : RulesRead} (re : r ≡ rules_read s at 2) where
     x : SeenLine chart_word (signed ∷ number ∷ []) s 0 f at
     x = line_seen chart_word (signed ∷ number ∷ []) s 0 fe q
 

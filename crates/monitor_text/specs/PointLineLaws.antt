@@ -1,7 +1,6 @@
 -- Point lines: what they say, and those who read them again. Laws.
-use Rattle.std.specs.Prelude.{ℕ, suc, ◌+◌, ◌*◌, ◌≤◌, ◌≡◌, refl, cond, List, [], ◌∷◌, ltb, ℤ, length, get_or}
+use Rattle.std.specs.Prelude.{ℕ, suc, ◌+◌, ◌*◌, ◌≤◌, ◌≡◌, refl, cond, List, [], ◌∷◌, ltb, ℤ, length, get_or, None, Some}
 use Rattle.std.proofs.Common.{sym, ap, ◌∙◌, arith}
-use Rattle.decimal.specs.declared.word.Found.TheVariants.{At, Absent}
 use Rattle.decimal.specs.Signed.{lowered}
 use Rattle.decimal.specs.SignedLaws.{lowered_raised}
 use Rattle.grammar.specs.LineValues.{number, signed, ValuesFit}
@@ -43,7 +42,7 @@ bench_below (x ∷ xs) = ap (λ (n : ℕ). cond (ltb x.0 node_count) (suc n) 0) 
 -- ---- for those who read the points again
 
 -- what the parser gives is what is seen
-pub point_seen : (s : List ℕ) (i : ℕ) {l : LineRead} → l ≡ line_read_at point_word (number ∷ signed ∷ []) s i → {next : ℕ} → l.next ≡ At next
+pub point_seen : (s : List ℕ) (i : ℕ) {l : LineRead} → l ≡ line_read_at point_word (number ∷ signed ∷ []) s i → {next : ℕ} → l.next ≡ Some next
     → seen (line point_line) s i ≡ found (get_or l.values 0 0, (lowered (get_or l.values 1 0), tt)) next
 unfolding slots_of codes ValuesFit
 point_seen s i {l} e {next} q =
@@ -53,7 +52,7 @@ point_seen s i {l} e {next} q =
     sym (ap (λ (v : List ℕ). lowered (get_or v 1 0)) x.values ∙ lowered_raised x.vs.1.0 x.fits.1.0) in
     x.is ∙ (λ k. found (node k, (reading k, tt)) next)
 
-pub no_point_seen : (s : List ℕ) (i : ℕ) {l : LineRead} → l ≡ line_read_at point_word (number ∷ signed ∷ []) s i → l.next ≡ Absent
+pub no_point_seen : (s : List ℕ) (i : ℕ) {l : LineRead} → l ≡ line_read_at point_word (number ∷ signed ∷ []) s i → l.next ≡ None
     → seen (line point_line) s i ≡ other
 no_point_seen s i e q = line_none point_word (number ∷ signed ∷ []) s i e q
 

@@ -1,6 +1,5 @@
 -- Laws of the items and of the quartiles: a percentile's bracket is shown exactly, and two points stand in order.
-use Rattle.std.specs.Prelude.{◌≡◌, refl, Bool, true, false, cond, List, ℕ, ◌+◌, ◌*◌, ◌≤◌, T, eqb, length}
-use Rattle.std.proofs.Math.Option.{Option, none, some}
+use Rattle.std.specs.Prelude.{◌≡◌, refl, Bool, true, false, cond, List, ℕ, ◌+◌, ◌*◌, ◌≤◌, T, eqb, length, Option, Some, None}
 use Rattle.std.proofs.Common.{zero-le, arith, lt→ltb, ltb→lt}
 use Rattle.std.specs.Float.Ieee.Exact.{HasValue}
 use Rattle.runlength.specs.Scale.{max_horizon, units_per_one, percents_per_one}
@@ -19,12 +18,12 @@ pub number : (n : ℕ) → n ≤ max_horizon → HasValue (nearest_to n 1) false
 number n h = exact n 0 (omega arith) zero-le
 
 -- the item of two bounds in the list's numbers shows them
-shown_by : (low high : Option ℕ) (h : ℕ) → h ≤ max_horizon → ((k : ℕ) → low ≡ some k → k ≤ h) → ((k : ℕ) → high ≡ some k → k ≤ h)
+shown_by : (low high : Option ℕ) (h : ℕ) → h ≤ max_horizon → ((k : ℕ) → low ≡ Some k → k ≤ h) → ((k : ℕ) → high ≡ Some k → k ≤ h)
     → Shows (bracket_by low high h) (item_of (bracket_by low high h))
 unfolding bracket_by item_of
-shown_by none high h m a b = beyond h (nearest_to h 1) (number h m)
-shown_by (some l) none h m a b = from l (nearest_to l 1) (number l (omega (arith, a l refl)))
-shown_by (some l) (some u) h m a b = go (eqb l u)
+shown_by None high h m a b = beyond h (nearest_to h 1) (number h m)
+shown_by (Some l) None h m a b = from l (nearest_to l 1) (number l (omega (arith, a l refl)))
+shown_by (Some l) (Some u) h m a b = go (eqb l u)
   where
     go : (t : Bool) → Shows (cond t (bracket.At l) (bracket.Between l u)) (item_of (cond t (bracket.At l) (bracket.Between l u)))
     go true = point l (nearest_to l 1) (number l (omega (arith, a l refl)))
@@ -40,18 +39,18 @@ shown pmf n p short =
 -- ---- the order of two points
 
 -- a point is the low bound
-point_low : (low high : Option ℕ) (h k : ℕ) → point_of (bracket_by low high h) ≡ some k → low ≡ some k
+point_low : (low high : Option ℕ) (h k : ℕ) → point_of (bracket_by low high h) ≡ Some k → low ≡ Some k
 unfolding bracket_by
-point_low none high h k e = let z : ◌≡◌ {A = ℕ} 0 1 = cc in absurd (omega arith)
-point_low (some l) none h k e = let z : ◌≡◌ {A = ℕ} 0 1 = cc in absurd (omega arith)
-point_low (some l) (some u) h k e = go (eqb l u) e
+point_low None high h k e = let z : ◌≡◌ {A = ℕ} 0 1 = cc in absurd (omega arith)
+point_low (Some l) None h k e = let z : ◌≡◌ {A = ℕ} 0 1 = cc in absurd (omega arith)
+point_low (Some l) (Some u) h k e = go (eqb l u) e
   where
-    go : (t : Bool) → point_of (cond t (bracket.At l) (bracket.Between l u)) ≡ some k → some l ≡ some k
+    go : (t : Bool) → point_of (cond t (bracket.At l) (bracket.Between l u)) ≡ Some k → Some l ≡ Some k
     go true q = cc
     go false q = let z : ◌≡◌ {A = ℕ} 0 1 = cc in absurd (omega arith)
 
 -- so it is the least that passes the low test
-pub point_found : (pmf : List ℕ) (n p k : ℕ) → point_of (percentile_bracket pmf n p) ≡ some k → Percentile (low_test pmf n p) k × (k ≤ length pmf)
+pub point_found : (pmf : List ℕ) (n p k : ℕ) → point_of (percentile_bracket pmf n p) ≡ Some k → Percentile (low_test pmf n p) k × (k ≤ length pmf)
 unfolding percentile_bracket
 point_found pmf n p k e = least_percentile (low_test pmf n p) (length pmf) k (point_low _ _ (length pmf) k e)
 
@@ -63,7 +62,7 @@ low_smaller pmf n p q k h t =
     (omega (arith, ltb→lt (q * units_per_one) (percents_per_one * (cdf_of pmf k + k * (n + 1))) t))
 
 module _ (pmf : List ℕ) (n p q : ℕ) (smaller : p ≤ q) where
-  points_order : (j k : ℕ) → point_of (percentile_bracket pmf n p) ≡ some j → point_of (percentile_bracket pmf n q) ≡ some k → j ≤ k
+  points_order : (j k : ℕ) → point_of (percentile_bracket pmf n p) ≡ Some j → point_of (percentile_bracket pmf n q) ≡ Some k → j ≤ k
   points_order j k e f =
       let x = point_found pmf n p j e in
       let y = point_found pmf n q k f in
@@ -74,6 +73,6 @@ module _ (pmf : List ℕ) (n p q : ℕ) (smaller : p ≤ q) where
   ordered = go (point_of (percentile_bracket pmf n p)) (point_of (percentile_bracket pmf n q)) refl refl
     where
       go : (x y : Option ℕ) → point_of (percentile_bracket pmf n p) ≡ x → point_of (percentile_bracket pmf n q) ≡ y → in_order x y
-      go (some j) (some k) e f = points_order j k e f
-      go (some j) none e f = tt
-      go none y e f = tt
+      go (Some j) (Some k) e f = points_order j k e f
+      go (Some j) None e f = tt
+      go None y e f = tt

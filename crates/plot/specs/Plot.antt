@@ -1,14 +1,11 @@
 -- TO BELIEVE: the plot record, and the operation that makes it: what it answers, and what the two lent lists then hold. Definitions.
-use Rattle.std.specs.Prelude.{ℕ, ◌+◌, ◌≤◌}
+use Rattle.std.specs.Prelude.{ℕ, ◌+◌, ◌≤◌, Err, Ok, Result}
+use Rattle.rules.specs.declared.refusal.Refusal.{Refusal}
 use Rattle.table.specs.Table.{TableCall, mean_of}
 use Rattle.summary.specs.declared.Summary.{Summary}
-use Rattle.summary.specs.declared.SummaryAnswer.{SummaryAnswer}
-use Rattle.summary.specs.declared.SummaryAnswer.TheVariants as summary
 use Rattle.summary.specs.Summary.{summary_of}
 use Rattle.summary.specs.ErrorBoundLaws.{max_error_bound}
 use Rattle.plot.specs.declared.PlotRecord.{PlotRecord}
-use Rattle.plot.specs.declared.BoxPlotAnswer.{BoxPlotAnswer}
-use Rattle.plot.specs.declared.BoxPlotAnswer.TheVariants as plot
 use Rattle.plot.specs.Double.{nearest_to}
 use Rattle.plot.specs.MeanBounds.{parts_per_one, round_down, round_up, MeanFits}
 use Rattle.plot.specs.Item.{item_of, Ordered, spread_of}
@@ -36,15 +33,15 @@ record_of s = record {
 }
 
 -- by the summary; refused as the table is
-unfoldable pub plot_by : SummaryAnswer → BoxPlotAnswer
-plot_by (summary.Accepted s) = plot.Accepted (record_of s)
-plot_by (summary.Refused x) = plot.Refused x
+unfoldable pub plot_by : Result Summary Refusal → Result PlotRecord Refusal
+plot_by (Ok s) = Ok (record_of s)
+plot_by (Err x) = Err x
 
 -- with the lists that the table's run left
-abbrev pub plot_after : CallResult SummaryAnswer → CallResult BoxPlotAnswer
+abbrev pub plot_after : CallResult (Result Summary Refusal) → CallResult (Result PlotRecord Refusal)
 plot_after r = call_result (plot_by r.answer) r.pmf_list r.survival_list
 
-unfoldable pub box_plot_of : TableCall → CallResult BoxPlotAnswer
+unfoldable pub box_plot_of : TableCall → CallResult (Result PlotRecord Refusal)
 box_plot_of t = plot_after (summary_of t)
 
 -- ---- working

@@ -1,19 +1,15 @@
 -- Laws of the plot record: it shows its summary exactly; and the answer by what the summary was. Laws.
-use Rattle.std.specs.Prelude.{◌≡◌, List, ℕ, ◌-◌, ◌≤◌, length}
+use Rattle.std.specs.Prelude.{◌≡◌, List, ℕ, ◌-◌, ◌≤◌, length, Err, Ok, Result, Option, Some, None}
 use Rattle.std.proofs.Math.Path.{refl}
 use Rattle.std.proofs.Common.{sym, ap, ◌∙◌, arith, lit≤}
-use Rattle.std.proofs.Math.Option.{Option, none, some}
 use Rattle.rules.specs.declared.refusal.Refusal.{Refusal}
 use Rattle.runlength.specs.Scale.{max_horizon}
 use Rattle.table.specs.Table.{TableCall, pmf_of}
 use Rattle.summary.specs.declared.Summary.{Summary}
-use Rattle.summary.specs.declared.SummaryAnswer.{SummaryAnswer}
-use Rattle.summary.specs.declared.SummaryAnswer.TheVariants as summary
 use Rattle.summary.specs.Summary.{summary_by, summary_of}
 use Rattle.summary.specs.AcceptedSummary.{AcceptedSummary}
 use Rattle.summary.proofs.SummaryLaws.{accepted_summary}
 use Rattle.plot.specs.declared.PlotRecord.{PlotRecord}
-use Rattle.plot.specs.declared.BoxPlotAnswer.{BoxPlotAnswer}
 use Rattle.plot.specs.DoubleLaws.{exact}
 use Rattle.plot.specs.MeanBounds.{MeanFits}
 use Rattle.plot.specs.MeanBoundsLaws.{down_fits, up_fits}
@@ -26,11 +22,11 @@ use Rattle.table.specs.Table.{CallResult, call_result}
 -- ---- a summary of accepted chances
 
 -- the difference of two points in order, in the list's numbers, is shown exactly
-spread_shown : (x y : Option ℕ) → in_order x y → ((k : ℕ) → y ≡ some k → k ≤ max_horizon) → (r : PlotRecord) → r.iqr ≡ (spread x y).iqr
+spread_shown : (x y : Option ℕ) → in_order x y → ((k : ℕ) → y ≡ Some k → k ≤ max_horizon) → (r : PlotRecord) → r.iqr ≡ (spread x y).iqr
     → r.has_iqr ≡ (spread x y).has_iqr → ShowsSpread x y r
-spread_shown (some a) (some b) o h r e m = (o, rw e (number (b - a) (omega (arith, h b refl))), m)
-spread_shown (some a) none o h r e m = (rw e (number 0 (omega arith)), m)
-spread_shown none y o h r e m = (rw e (number 0 (omega arith)), m)
+spread_shown (Some a) (Some b) o h r e m = (o, rw e (number (b - a) (omega (arith, h b refl))), m)
+spread_shown (Some a) None o h r e m = (rw e (number 0 (omega arith)), m)
+spread_shown None y o h r e m = (rw e (number 0 (omega arith)), m)
 
 module _ {t : TableCall} {s : Summary} (a : AcceptedSummary t s) where
   short : length (pmf_of t) ≤ max_horizon
@@ -69,29 +65,29 @@ module _ {t : TableCall} {s : Summary} (a : AcceptedSummary t s) where
 
 -- ---- the operation, by the summary of one run of the table
 
-module _ (t : TableCall) {a : SummaryAnswer} {p q : List ℕ} (run : call_result a p q ≡ summary_of t) where
-  pub refused_plot : {x : Refusal} → a ≡ summary.Refused x → call_result (BoxPlotAnswer.Refused x) p q ≡ box_plot_of t
+module _ (t : TableCall) {a : (Result Summary Refusal)} {p q : List ℕ} (run : call_result a p q ≡ summary_of t) where
+  pub refused_plot : {x : Refusal} → a ≡ Err x → call_result (Err x) p q ≡ box_plot_of t
   unfolding box_plot_of plot_by
   refused_plot e = rw (← run, e)
 
-  module _ {s : Summary} (accepted : a ≡ summary.Accepted s) where
+  module _ {s : Summary} (accepted : a ≡ Ok s) where
     pub left_plottable : Plottable s
-    left_plottable = summary_plottable (accepted_summary t s (ap (λ (r : CallResult SummaryAnswer). r.answer) (sym run) ∙ accepted))
+    left_plottable = summary_plottable (accepted_summary t s (ap (λ (r : CallResult (Result Summary Refusal)). r.answer) (sym run) ∙ accepted))
 
-    pub accepted_plot : {r : PlotRecord} → r ≡ record_of s → call_result (BoxPlotAnswer.Accepted r) p q ≡ box_plot_of t
+    pub accepted_plot : {r : PlotRecord} → r ≡ record_of s → call_result (Ok r) p q ≡ box_plot_of t
     unfolding box_plot_of plot_by
     accepted_plot e = rw (← run, accepted, e)
 
 -- an accepted record is that of an accepted summary
 pub record PlotOf (t : TableCall) (r : PlotRecord) : Type 0 where
   pub short : Summary
-  pub answered : (summary_of t).answer ≡ summary.Accepted short
+  pub answered : (summary_of t).answer ≡ Ok short
   pub made : r ≡ record_of short
 
-pub plot_of : (t : TableCall) (r : PlotRecord) → (box_plot_of t).answer ≡ BoxPlotAnswer.Accepted r → PlotOf t r
+pub plot_of : (t : TableCall) (r : PlotRecord) → (box_plot_of t).answer ≡ Ok r → PlotOf t r
 unfolding box_plot_of plot_by
 plot_of t r e = go (summary_of t).answer refl e
   where
-    go : (a : SummaryAnswer) → (summary_of t).answer ≡ a → plot_by a ≡ BoxPlotAnswer.Accepted r → PlotOf t r
-    go (summary.Accepted s) q d = record { short = s; answered = q; made = cc }
-    go (summary.Refused x) q d = absurd (let z : ◌≡◌ {A = ℕ} 0 1 = cc in omega arith)
+    go : (a : Result Summary Refusal) → (summary_of t).answer ≡ a → plot_by a ≡ Ok r → PlotOf t r
+    go (Ok s) q d = record { short = s; answered = q; made = cc }
+    go (Err x) q d = absurd (let z : ◌≡◌ {A = ℕ} 0 1 = cc in omega arith)

@@ -1,6 +1,5 @@
 -- TO BELIEVE: what a plot record shows, by the values of its doubles. Definitions.
-use Rattle.std.specs.Prelude.{◌≡◌, true, false, ℕ, ◌-◌, ◌≤◌, Float}
-use Rattle.std.proofs.Math.Option.{Option, none, some}
+use Rattle.std.specs.Prelude.{◌≡◌, true, false, ℕ, ◌-◌, ◌≤◌, Float, Option, Some, None}
 use Rattle.std.specs.Float.Ieee.Exact.{HasValue}
 use Rattle.bracket.specs.declared.Bracket.{Bracket}
 use Rattle.bracket.specs.declared.Bracket.TheVariants as bracket
@@ -22,9 +21,9 @@ pub data Shows : Bracket → PlotItem → Type 0 where
 
 -- the double is exactly the difference of two points, which stand in order, and marked as held; with one point or none it is 0 and not held
 abbrev pub ShowsSpread : Option ℕ → Option ℕ → PlotRecord → Type 0
-ShowsSpread (some a) (some b) r = (a ≤ b) × HasValue r.iqr false (b - a) 1 × (r.has_iqr ≡ true)
-ShowsSpread (some a) none r = HasValue r.iqr false 0 1 × (r.has_iqr ≡ false)
-ShowsSpread none q r = HasValue r.iqr false 0 1 × (r.has_iqr ≡ false)
+ShowsSpread (Some a) (Some b) r = (a ≤ b) × HasValue r.iqr false (b - a) 1 × (r.has_iqr ≡ true)
+ShowsSpread (Some a) None r = HasValue r.iqr false 0 1 × (r.has_iqr ≡ false)
+ShowsSpread None q r = HasValue r.iqr false 0 1 × (r.has_iqr ≡ false)
 
 -- the record shows a summary: its five brackets, their quartiles' difference, and its mean's two bounds
 pub record ShowsSummary (s : Summary) (r : PlotRecord) : Type 0 where

@@ -13,7 +13,7 @@ ghost use Rattle.table.specs.Table.{call_result};
 
 use bracket::Bracket;
 use rules::{Refusal, RuleList, ZONES};
-use summary::{Summary, SummaryAnswer, table_summary};
+use summary::{Summary, table_summary};
 use table::TableFigures;
 
 // A percentile for the plotter: at a number, between two, at one or above, or beyond the horizon.
@@ -38,12 +38,6 @@ pub struct PlotRecord {
     pub upper: f64,
     pub iqr: f64,
     pub has_iqr: bool,
-}
-
-#[derive(Clone, Copy)]
-pub enum BoxPlotAnswer {
-    Accepted(PlotRecord),
-    Refused(Refusal),
 }
 
 // The interquartile range, and whether there is one.
@@ -155,13 +149,10 @@ pub fn box_plot(
     horizon: u32,
     pmf: &mut [u64],
     survival: &mut [u64],
-) -> BoxPlotAnswer
+) -> Result<PlotRecord, Refusal>
     ensures { call_result result pmf.new survival.new
         ≡ box_plot_of (table_call list weights horizon pmf.old survival.old) }
 {
-    let answer = table_summary(list, weights, horizon, pmf, survival);
-    match answer {
-        SummaryAnswer::Refused(refusal) => BoxPlotAnswer::Refused(refusal),
-        SummaryAnswer::Accepted(summary) => BoxPlotAnswer::Accepted(plot_record(summary)),
-    }
+    let summary = table_summary(list, weights, horizon, pmf, survival)?;
+    Ok(plot_record(summary))
 }

@@ -1,5 +1,5 @@
 -- The turns of the loop over the rule lines, and what each line says where a rule may come next. Laws.
-use Rattle.std.specs.Prelude.{ℕ, ◌+◌, ◌≤◌, ◌<◌, List, [], ◌∷◌, ◌++◌, get_or}
+use Rattle.std.specs.Prelude.{ℕ, ◌+◌, ◌≤◌, ◌<◌, List, [], ◌∷◌, ◌++◌, get_or, None, Option, Some}
 use Rattle.std.proofs.Math.Path.{◌≡◌, refl, sym, ap}
 use Rattle.std.proofs.Common.{ap₂, ◌∙◌, arith}
 use Rattle.std.proofs.Math.ListN.{length}
@@ -7,9 +7,7 @@ use Rattle.rules.specs.declared.Rule.{Rule}
 use Rattle.rules.specs.declared.RuleList.{RuleList}
 use Rattle.rules.specs.declared.refusal.Refusal.{Refusal}
 use Rattle.rules.specs.Ready.{rule_of}
-use Rattle.rules.specs.Refusal.{not_refused, bad_line}
-use Rattle.decimal.specs.declared.word.Found.{Found}
-use Rattle.decimal.specs.declared.word.Found.TheVariants.{At, Absent}
+use Rattle.rules.specs.Refusal.{number_of, not_refused, bad_line}
 use Rattle.decimal.specs.Word.{word_at, on_found}
 use Rattle.grammar.specs.LineValues.{Field, number}
 use Rattle.grammar.specs.Form.{Says, line}
@@ -32,25 +30,25 @@ abbrev three_numbers : List Field
 three_numbers = number ∷ number ∷ number ∷ []
 
 -- what is said of a line that is seen so
-abbrev told : Seen (Says rule_line) → Found → RuleLine
+abbrev told : Seen (Says rule_line) → Option ℕ → RuleLine
 told y w = on_seen y (λ x n. RuleLine.Rule x.0 x.1.0 x.1.1.0 n) (on_found w (λ p. RuleLine.Unreadable) RuleLine.Absent)
 
-given : {y : Seen (Says rule_line)} (w : Found) {vs : List ℕ} {x : Says rule_line} {next : ℕ} → y ≡ found x next
+given : {y : Seen (Says rule_line)} (w : Option ℕ) {vs : List ℕ} {x : Says rule_line} {next : ℕ} → y ≡ found x next
     → vs ≡ slots_of most_fields (codes three_numbers x) → RuleLine.Rule (get_or vs 0 0) (get_or vs 1 0) (get_or vs 2 0) next ≡ told y w
 unfolding slots_of codes
 given w e v = rw (e, v)
 
 module _ (s : List ℕ) (at : ℕ) {r : LineRead} (e : r ≡ line_read_at rule_word three_numbers s at) where
-  pub rule_given : {next : ℕ} → r.next ≡ At next
+  pub rule_given : {next : ℕ} → r.next ≡ Some next
       → RuleLine.Rule (get_or r.values 0 0) (get_or r.values 1 0) (get_or r.values 2 0) next ≡ rule_line_at s at
   unfolding rule_line_at
   rule_given {next} q = let x = line_seen rule_word three_numbers s at e q in given (word_at rule_word s at) x.is x.values
 
-  pub rule_not_begun : r.next ≡ Absent → word_at rule_word s at ≡ Absent → RuleLine.Absent ≡ rule_line_at s at
+  pub rule_not_begun : r.next ≡ None → word_at rule_word s at ≡ None → RuleLine.Absent ≡ rule_line_at s at
   unfolding rule_line_at
   rule_not_begun q w = rw (line_none rule_word three_numbers s at e q, w)
 
-  pub rule_begun : r.next ≡ Absent → {p : ℕ} → word_at rule_word s at ≡ At p → RuleLine.Unreadable ≡ rule_line_at s at
+  pub rule_begun : r.next ≡ None → {p : ℕ} → word_at rule_word s at ≡ Some p → RuleLine.Unreadable ≡ rule_line_at s at
   unfolding rule_line_at
   rule_begun q w = rw (line_none rule_word three_numbers s at e q, w)
 
@@ -77,7 +75,7 @@ module _ (s : List ℕ) (at : ℕ) where
   unfolding rule_line_at
   rule_seen k m zones next e = go (seen (line rule_line) s at) refl (word_at rule_word s at) e
     where
-      go : (y : Seen (Says rule_line)) → seen (line rule_line) s at ≡ y → (w : Found)
+      go : (y : Seen (Says rule_line)) → seen (line rule_line) s at ≡ y → (w : Option ℕ)
           → told y w ≡ RuleLine.Rule k m zones next
           → RuleSeen s at k m zones next
       go (found x n) q w e =
@@ -86,32 +84,32 @@ module _ (s : List ℕ) (at : ℕ) where
             is = q ∙ ap (λ (i : ℕ). found x i) (ap next_in e);
             rule = sym (ap (rule_in (rule_of 0 0 0)) e);
           }
-      go other q (At p) e = let z : ◌≡◌ {A = ℕ} 0 1 = cc in absurd (omega arith)
-      go other q Absent e = let z : ◌≡◌ {A = ℕ} 0 1 = cc in absurd (omega arith)
+      go other q (Some p) e = let z : ◌≡◌ {A = ℕ} 0 1 = cc in absurd (omega arith)
+      go other q None e = let z : ◌≡◌ {A = ℕ} 0 1 = cc in absurd (omega arith)
 
   -- no rule, and whether the line begins as one
-  pub rule_absent : rule_line_at s at ≡ RuleLine.Absent → (seen (line rule_line) s at ≡ other) × (word_at rule_word s at ≡ Absent)
+  pub rule_absent : rule_line_at s at ≡ RuleLine.Absent → (seen (line rule_line) s at ≡ other) × (word_at rule_word s at ≡ None)
   unfolding rule_line_at
   rule_absent e = go (seen (line rule_line) s at) refl (word_at rule_word s at) refl e
     where
-      go : (y : Seen (Says rule_line)) → seen (line rule_line) s at ≡ y → (w : Found) → word_at rule_word s at ≡ w
+      go : (y : Seen (Says rule_line)) → seen (line rule_line) s at ≡ y → (w : Option ℕ) → word_at rule_word s at ≡ w
           → told y w ≡ RuleLine.Absent
-          → (seen (line rule_line) s at ≡ other) × (word_at rule_word s at ≡ Absent)
+          → (seen (line rule_line) s at ≡ other) × (word_at rule_word s at ≡ None)
       go (found x n) q w h e = let z : ◌≡◌ {A = ℕ} 0 1 = cc in absurd (omega arith)
-      go other q (At p) h e = let z : ◌≡◌ {A = ℕ} 0 1 = cc in absurd (omega arith)
-      go other q Absent h e = (q, h)
+      go other q (Some p) h e = let z : ◌≡◌ {A = ℕ} 0 1 = cc in absurd (omega arith)
+      go other q None h e = (q, h)
 
   pub rule_unreadable : rule_line_at s at ≡ RuleLine.Unreadable
-      → (seen (line rule_line) s at ≡ other) × ((p : ℕ) × (word_at rule_word s at ≡ At p))
+      → (seen (line rule_line) s at ≡ other) × ((p : ℕ) × (word_at rule_word s at ≡ Some p))
   unfolding rule_line_at
   rule_unreadable e = go (seen (line rule_line) s at) refl (word_at rule_word s at) refl e
     where
-      go : (y : Seen (Says rule_line)) → seen (line rule_line) s at ≡ y → (w : Found) → word_at rule_word s at ≡ w
+      go : (y : Seen (Says rule_line)) → seen (line rule_line) s at ≡ y → (w : Option ℕ) → word_at rule_word s at ≡ w
           → told y w ≡ RuleLine.Unreadable
-          → (seen (line rule_line) s at ≡ other) × ((p : ℕ) × (word_at rule_word s at ≡ At p))
+          → (seen (line rule_line) s at ≡ other) × ((p : ℕ) × (word_at rule_word s at ≡ Some p))
       go (found x n) q w h e = let z : ◌≡◌ {A = ℕ} 0 1 = cc in absurd (omega arith)
-      go other q (At p) h e = (q, (p, h))
-      go other q Absent h e = let z : ◌≡◌ {A = ℕ} 0 1 = cc in absurd (omega arith)
+      go other q (Some p) h e = (q, (p, h))
+      go other q None h e = let z : ◌≡◌ {A = ℕ} 0 1 = cc in absurd (omega arith)
 
   -- a rule line reaches ahead, and not over the end
   pub rule_ahead : (k m zones next : ℕ) → rule_line_at s at ≡ RuleLine.Rule k m zones next → (at < next) × (next ≤ length s)
@@ -162,12 +160,12 @@ module _ {s : List ℕ} {at : ℕ} {l : RuleList} {i : ℕ} (h : HoldsRules s at
     count : l.len ≡ length (many_at (line rule_line) (length s) s at)
     count = holds_count ∙ ap length all.0
 
-    pub holds_done : word_at rule_word s i ≡ Absent
+    pub holds_done : word_at rule_word s i ≡ None
         → ◌≡◌ {A = RulesRead} (record { refusal = not_refused; list = l; next = i; line = first + l.len }) (rules_read s at first)
     unfolding rules_read
     holds_done w = rw (← all.1, w, ← list, ← count)
 
-    pub holds_refused : (p : ℕ) → word_at rule_word s i ≡ At p
+    pub holds_refused : (p : ℕ) → word_at rule_word s i ≡ Some p
         → ◌≡◌ {A = RulesRead} (record { refusal = bad_line (first + l.len); list = l; next = i; line = first + l.len }) (rules_read s at first)
     unfolding rules_read
     holds_refused p w = rw (← all.1, w, ← list, ← count)
@@ -188,15 +186,15 @@ module _ (s : List ℕ) (at first : ℕ) {r : RulesRead} (e : r ≡ rules_read s
   read_line_number = ap (λ (x : RulesRead). x.line) e
 
   -- a refusal is of the line behind the rules, which begins as one
-  pub read_refused : (r.refusal.number ≡ 0 → ⊥) → (r.refusal ≡ bad_line r.line) × ((p : ℕ) × (word_at rule_word s r.next ≡ At p))
+  pub read_refused : (r.refusal.number ≡ 0 → ⊥) → (r.refusal ≡ bad_line r.line) × ((p : ℕ) × (word_at rule_word s r.next ≡ Some p))
   unfolding rules_read
   read_refused n = go (word_at rule_word s (after_many (line rule_line) (length s) s at)) refl (ap (λ (x : RulesRead). x.refusal) e)
     where
-      go : (w : Found) → word_at rule_word s (after_many (line rule_line) (length s) s at) ≡ w
+      go : (w : Option ℕ) → word_at rule_word s (after_many (line rule_line) (length s) s at) ≡ w
           → r.refusal ≡ on_found w (λ p. bad_line (first + length (many_at (line rule_line) (length s) s at))) not_refused
-          → (r.refusal ≡ bad_line r.line) × ((p : ℕ) × (word_at rule_word s r.next ≡ At p))
-      go (At p) h q = (q ∙ ap bad_line (sym read_line_number), (p, ap (word_at rule_word s) read_next ∙ h))
-      go Absent h q = absurd (n (ap (λ (x : Refusal). x.number) q))
+          → (r.refusal ≡ bad_line r.line) × ((p : ℕ) × (word_at rule_word s r.next ≡ Some p))
+      go (Some p) h q = (q ∙ ap bad_line (sym read_line_number), (p, ap (word_at rule_word s) read_next ∙ h))
+      go None h q = absurd (n (ap (λ (x : Refusal). (number_of x)) q))
 
   pub read_few : r.line ≤ first + length s
   unfolding least

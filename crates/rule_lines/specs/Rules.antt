@@ -1,11 +1,11 @@
 -- TO BELIEVE: the kind of line that is a rule, and the list that holds rules. Definitions; below them what the reading of rule lines gives.
-use Rattle.std.specs.Prelude.{ℕ, zero, suc, ◌+◌, cond, List, [], ◌∷◌, length, set, leb}
+use Rattle.std.specs.Prelude.{ℕ, zero, suc, ◌+◌, cond, List, [], ◌∷◌, length, set, leb, Some, None}
 use Rattle.rules.specs.declared.Rule.{Rule}
 use Rattle.rules.specs.declared.RuleList.{RuleList}
 use Rattle.rules.specs.Bounds.{max_rules}
 use Rattle.rules.specs.Check.{no_rule}
 use Rattle.rules.specs.Ready.{rule_of}
-use Rattle.rules.specs.Refusal.{not_refused, bad_line}
+use Rattle.rules.specs.Refusal.{bad_line}
 use Rattle.decimal.specs.Word.{word_at, on_found}
 use Rattle.grammar.specs.LineValues.{number}
 use Rattle.grammar.specs.Form.{Kind, named, Says, line}
@@ -65,7 +65,7 @@ rules_read s at first =
     let vss = many_at (line rule_line) (length s) s at in
     let end = after_many (line rule_line) (length s) s at in
     record {
-      refusal = on_found (word_at rule_word s end) (λ p. bad_line (first + length vss)) not_refused;
+      refusal = on_found (word_at rule_word s end) (λ p. Some (bad_line (first + length vss))) None;
       list = rule_list_of (rules_said vss);
       next = end;
       line = first + length vss;

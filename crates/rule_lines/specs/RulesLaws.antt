@@ -1,8 +1,7 @@
 -- Laws of the list that holds the rules read: one rule more, and the rules that it gives back.
-use Rattle.std.specs.Prelude.{ℕ, zero, suc, ◌+◌, ◌≤◌, ◌<◌, ◌≡◌, refl, Bool, true, false, List, [], ◌∷◌, ◌++◌, leb, length, set, get_or}
+use Rattle.std.specs.Prelude.{ℕ, zero, suc, ◌+◌, ◌≤◌, ◌<◌, ◌≡◌, refl, Bool, true, false, List, [], ◌∷◌, ◌++◌, leb, length, set, get_or, Ok}
 use Rattle.std.proofs.Common.{ap, arith, length-append, leb-true, leb-false}
 use Rattle.rules.specs.declared.Rule.{Rule}
-use Rattle.rules.specs.declared.Checked.TheVariants.{Accepted}
 use Rattle.rules.specs.Bounds.{max_rules}
 use Rattle.rules.specs.Check.{no_rule, rules_from, active_rules, check_of}
 use Rattle.rules.proofs.CheckLaws.{accepted}
@@ -58,7 +57,7 @@ unfolding rule_list_of
 active_rules_lem rs h = from_slots (slots_of max_rules rs) rs 0 (λ j l. let e : 0 + j ≡ j = omega arith in rw e (slots_get max_rules j rs (omega arith)))
 
 -- an accepted list has slots for all its rules
-pub rules_few : (rs : List Rule) → check_of (rule_list_of rs) ≡ Accepted → length rs ≤ max_rules
+pub rules_few : (rs : List Rule) → check_of (rule_list_of rs) ≡ Ok tt → length rs ≤ max_rules
 unfolding rule_list_of
 rules_few rs q = (accepted (rule_list_of rs) q).1
 

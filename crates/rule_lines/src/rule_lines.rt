@@ -3,7 +3,7 @@ ghost use Rattle.std.specs.Prelude.{◌≡◌, ◌≤◌, [], length};
 ghost use Rattle.grammar.specs.Size.{max_text};
 ghost use Rattle.rule_lines.specs.Rules.{rule_list_of, pushed, rule_line_at, rules_read};
 
-use decimal::{Found, past};
+use decimal::past;
 use rules::{Refusal, Rule, RuleList};
 use text::line_at;
 
@@ -22,10 +22,10 @@ pub enum RuleLine {
 }
 
 // The rules, and the offset and the number of the first line that is no rule line; with the refusal of that line where it begins as a
-// rule line and does not give three numbers, else with the number 0.
+// rule line and does not give three numbers.
 #[derive(Clone, Copy)]
 pub struct RulesRead {
-    pub refusal: Refusal,
+    pub refusal: Option<Refusal>,
     pub list: RuleList,
     pub next: usize,
     pub line: u32,
@@ -69,21 +69,18 @@ fn push(list: RuleList, rule: Rule) -> RuleList
 fn rule_line(text: &[u8], at: usize) -> RuleLine
     ensures { result ≡ rule_line_at text.now at }
 {
-    let line = line_at(text, at, b"rule", b"nnn");
-    let behind = line.next;
-    if let Found::At(next) = behind {
-        let values = line.values;
+    if let Some(line) = line_at(text, at, b"rule", b"nnn") {
         return RuleLine::Rule {
-            k: values[0],
-            m: values[1],
-            zones: values[2],
-            next,
+            k: line.values[0],
+            m: line.values[1],
+            zones: line.values[2],
+            next: line.next,
         };
     }
-    let Found::At(end) = past(text, at, b"rule") else {
-        return RuleLine::Absent;
-    };
-    RuleLine::Unreadable
+    match past(text, at, b"rule") {
+        Some(_) => RuleLine::Unreadable,
+        None => RuleLine::Absent,
+    }
 }
 
 // The rule lines from `at` on, where line `first` begins. For the crates of this repository: it has a `requires`.
@@ -98,10 +95,7 @@ pub fn read_rules(text: &[u8], at: usize, first: u32) -> RulesRead
         let found = rule_line(text, i);
         if let RuleLine::Absent = found {
             return RulesRead {
-                refusal: Refusal {
-                    number: 0,
-                    place: 0,
-                },
+                refusal: None,
                 list,
                 next: i,
                 line: first + list.len,
@@ -109,10 +103,7 @@ pub fn read_rules(text: &[u8], at: usize, first: u32) -> RulesRead
         }
         let RuleLine::Rule { k, m, zones, next } = found else {
             return RulesRead {
-                refusal: Refusal {
-                    number: Refusal::LINE,
-                    place: first + list.len,
-                },
+                refusal: Some(Refusal::Line(first + list.len)),
                 list,
                 next: i,
                 line: first + list.len,

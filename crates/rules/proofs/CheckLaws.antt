@@ -1,13 +1,11 @@
 -- Laws of the check: rule by rule, and what an accepted list has.
-use Rattle.std.specs.Prelude.{◌≡◌, refl, Bool, true, false, cond, List, [], ◌∷◌, ℕ, suc, ◌+◌, ◌-◌, ◌≤◌, ◌<◌, get_or, leb}
+use Rattle.std.specs.Prelude.{◌≡◌, refl, Bool, true, false, cond, List, [], ◌∷◌, ℕ, suc, ◌+◌, ◌-◌, ◌≤◌, ◌<◌, get_or, leb, Err, Ok}
 use Rattle.std.proofs.Common.{sym, ◌∙◌, arith, leb-true}
 use Rattle.rules.specs.declared.Rule.{Rule}
 use Rattle.rules.specs.declared.RuleList.{RuleList}
 use Rattle.rules.specs.declared.refusal.Refusal.{Refusal}
-use Rattle.rules.specs.declared.Checked.{Checked}
-use Rattle.rules.specs.declared.Checked.TheVariants.{Accepted, Refused}
 use Rattle.rules.specs.Bounds.{min_rules, max_rules, min_window, max_window, min_hits, min_zone_set, max_zone_set}
-use Rattle.rules.specs.Check.{within, check_rule, or_else, check_rules, no_rule, rules_from, active_rules, check_of, unless}
+use Rattle.rules.specs.Check.{Checked, within, check_rule, or_else, check_rules, no_rule, rules_from, active_rules, check_of, unless}
 use Rattle.rules.specs.Refusal.{bad_rule_count, bad_rule_bounds, bad_zone_set}
 use Rattle.rules.specs.InBounds.{InBounds, AllInBounds}
 
@@ -27,28 +25,28 @@ pub check_cons : (slots : List Rule) (n i : ℕ) → i < n → check_rules i (ru
 unfolding check_rules
 check_cons slots n i h = rw (rules_cons slots n i h)
 
-pub check_none : (slots : List Rule) (n i : ℕ) → n ≤ i → check_rules i (rules_from (n - i) i slots) ≡ Accepted
+pub check_none : (slots : List Rule) (n i : ℕ) → n ≤ i → check_rules i (rules_from (n - i) i slots) ≡ Ok tt
 unfolding check_rules
 check_none slots n i h = rw (rules_none slots n i h)
 
 -- ---- what a match on an answer tells: by its tag, 0 for accepted and 1 for refused
 
 module _ (tag : Checked → ℕ) where
-  pub is_accepted : ((x : Refusal) → tag (Refused x) ≡ 1) → {a b : Checked} → a ≡ b → tag a ≡ 0 → b ≡ Accepted
+  pub is_accepted : ((x : Refusal) → tag (Err x) ≡ 1) → {a b : Checked} → a ≡ b → tag a ≡ 0 → b ≡ Ok tt
   is_accepted one {a} e h = sym e ∙ go a h
     where
-      go : (a : Checked) → tag a ≡ 0 → a ≡ Accepted
-      go Accepted h = refl
-      go (Refused x) h = absurd (omega (arith, one x))
+      go : (a : Checked) → tag a ≡ 0 → a ≡ Ok tt
+      go (Ok tt) h = refl
+      go (Err x) h = absurd (omega (arith, one x))
 
   -- a refusal comes before whatever would follow it
-  pub is_refused : tag Accepted ≡ 0 → (a b : Checked) → tag a ≡ 1 → or_else a b ≡ a
-  is_refused none Accepted b h = absurd (omega arith)
-  is_refused none (Refused x) b h = refl
+  pub is_refused : tag (Ok tt) ≡ 0 → (a b : Checked) → tag a ≡ 1 → or_else a b ≡ a
+  is_refused none (Ok tt) b h = absurd (omega arith)
+  is_refused none (Err x) b h = refl
 
 -- ---- what an accepted list has
 
-passes : (t : Bool) (x : Refusal) → unless t x ≡ Accepted → t ≡ true
+passes : (t : Bool) (x : Refusal) → unless t x ≡ Ok tt → t ≡ true
 passes true x e = refl
 passes false x e = let z : ◌≡◌ {A = ℕ} 0 1 = cc in absurd (omega arith)
 
@@ -61,11 +59,11 @@ between low high x e = go (leb low x) refl e
     go false p q = let z : ◌≡◌ {A = ℕ} 0 1 = cc in absurd (omega arith)
 
 -- two checks in a row accept where both do
-pub both_accept : (a b : Checked) → or_else a b ≡ Accepted → (a ≡ Accepted) × (b ≡ Accepted)
-both_accept Accepted b e = (refl, e)
-both_accept (Refused x) b e = let z : ◌≡◌ {A = ℕ} 0 1 = cc in absurd (omega arith)
+pub both_accept : (a b : Checked) → or_else a b ≡ Ok tt → (a ≡ Ok tt) × (b ≡ Ok tt)
+both_accept (Ok tt) b e = (refl, e)
+both_accept (Err x) b e = let z : ◌≡◌ {A = ℕ} 0 1 = cc in absurd (omega arith)
 
-in_bounds : (i : ℕ) (r : Rule) → check_rule i r ≡ Accepted → InBounds r
+in_bounds : (i : ℕ) (r : Rule) → check_rule i r ≡ Ok tt → InBounds r
 in_bounds i r e =
     let window = within min_window max_window r.m in
     let hits = within min_hits r.m r.k in
@@ -78,12 +76,12 @@ in_bounds i r e =
     let z = between min_zone_set max_zone_set r.zones (passes zones (bad_zone_set i) q.1) in
     record { some_hits = k.0; hits_fit = k.1; window = m.1; some_zone = z.0; zone_set = z.1 }
 
-all_in_bounds : (i : ℕ) (rs : List Rule) → check_rules i rs ≡ Accepted → AllInBounds rs
+all_in_bounds : (i : ℕ) (rs : List Rule) → check_rules i rs ≡ Ok tt → AllInBounds rs
 unfolding check_rules AllInBounds
 all_in_bounds i [] e = tt
 all_in_bounds i (r ∷ rs) e = let p = both_accept (check_rule i r) (check_rules (i + 1) rs) e in (in_bounds i r p.0, all_in_bounds (i + 1) rs p.1)
 
-pub accepted : (l : RuleList) → check_of l ≡ Accepted → (min_rules ≤ l.len) × (l.len ≤ max_rules) × AllInBounds (active_rules l)
+pub accepted : (l : RuleList) → check_of l ≡ Ok tt → (min_rules ≤ l.len) × (l.len ≤ max_rules) × AllInBounds (active_rules l)
 unfolding check_of
 accepted l e =
     let fits = within min_rules max_rules l.len in

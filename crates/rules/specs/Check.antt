@@ -1,10 +1,8 @@
 -- TO BELIEVE: the check of a rule list: 2, none or too many; then rule by rule 3, then 4. Definitions.
-use Rattle.std.specs.Prelude.{ℕ, zero, suc, ◌+◌, Bool, false, cond, List, [], ◌∷◌, get_or, leb}
+use Rattle.std.specs.Prelude.{ℕ, zero, suc, ◌+◌, Bool, false, cond, List, [], ◌∷◌, get_or, leb, Err, Ok, Result, ⊤}
 use Rattle.rules.specs.declared.Rule.{Rule}
 use Rattle.rules.specs.declared.RuleList.{RuleList}
 use Rattle.rules.specs.declared.refusal.Refusal.{Refusal}
-use Rattle.rules.specs.declared.Checked.{Checked}
-use Rattle.rules.specs.declared.Checked.TheVariants.{Accepted, Refused}
 use Rattle.rules.specs.Bounds.{min_rules, max_rules, min_window, max_window, min_hits, min_zone_set, max_zone_set}
 use Rattle.rules.specs.Refusal.{bad_rule_count, bad_rule_bounds, bad_zone_set}
 
@@ -12,14 +10,23 @@ use Rattle.rules.specs.Refusal.{bad_rule_count, bad_rule_bounds, bad_zone_set}
 abbrev pub within : ℕ → ℕ → ℕ → Bool
 within low high x = cond (leb low x) (leb x high) false
 
+-- what a check answers: accepted, or the refusal
+abbrev pub Checked : Type 0
+Checked = Result ⊤ Refusal
+
+-- whether an answer accepts, whatever it then answers
+abbrev pub checked : {A : Type 0} → Result A Refusal → Checked
+checked (Ok a) = Ok tt
+checked (Err x) = Err x
+
 -- the first answer if it is a refusal, else the second
 abbrev pub or_else : Checked → Checked → Checked
-or_else Accepted next = next
-or_else (Refused x) next = Refused x
+or_else (Ok tt) next = next
+or_else (Err x) next = Err x
 
 -- accepted where the test holds, else refused
 abbrev pub unless : Bool → Refusal → Checked
-unless t x = cond t Accepted (Refused x)
+unless t x = cond t (Ok tt) (Err x)
 
 -- the rule at the index i: 3 where m or k is out of bounds, else 4 where the zone set is
 abbrev pub check_rule : ℕ → Rule → Checked
@@ -30,7 +37,7 @@ check_rule i r =
 
 -- rule by rule, the first of them standing at the index i
 unfoldable pub check_rules : ℕ → List Rule → Checked
-check_rules i [] = Accepted
+check_rules i [] = Ok tt
 check_rules i (r ∷ rs) = or_else (check_rule i r) (check_rules (i + 1) rs)
 
 -- what a slot that does not exist would hold

@@ -32,13 +32,6 @@ pub struct RuleList {
     pub len: u32,
 }
 
-// What the check of a list, or of one rule, answers.
-#[derive(Clone, Copy)]
-pub enum Checked {
-    Accepted,
-    Refused(Refusal),
-}
-
 // Whether low ≤ x ≤ high.
 pub fn within(low: u32, high: u32, x: u32) -> bool
     ensures { result ≡ in_range low high x }
@@ -57,25 +50,19 @@ impl Rule {
     }
 
     // One rule, which stands at the index `at`: 3, then 4.
-    fn check(self, at: u32) -> Checked
+    fn check(self, at: u32) -> Result<(), Refusal>
         ensures { result ≡ check_rule at self }
     {
         let window = within(RuleList::MIN_WINDOW, RuleList::MAX_WINDOW, self.m);
         let hits = within(RuleList::MIN_HITS, self.m, self.k);
         let zones = within(RuleList::MIN_ZONE_SET, RuleList::MAX_ZONE_SET, self.zones);
         if !(window & hits) {
-            return Checked::Refused(Refusal {
-                number: Refusal::RULE_BOUNDS,
-                place: at,
-            });
+            return Err(Refusal::RuleBounds(at));
         }
         if !zones {
-            return Checked::Refused(Refusal {
-                number: Refusal::ZONE_SET,
-                place: at,
-            });
+            return Err(Refusal::ZoneSet(at));
         }
-        Checked::Accepted
+        Ok(())
     }
 }
 
@@ -137,26 +124,16 @@ impl RuleList {
     }
 
     // 2 for none or too many; then rule by rule 3, then 4, with the rule's index as the place.
-    pub fn check(self) -> Checked
+    pub fn check(self) -> Result<(), Refusal>
         ensures { result ≡ check_of self }
     {
         let len = self.len;
         if !within(RuleList::MIN_RULES, RuleList::MAX_RULES, len) {
-            return Checked::Refused(Refusal {
-                number: Refusal::RULE_COUNT,
-                place: 0,
-            });
+            return Err(Refusal::RuleCount);
         }
-        let rules = self.rules;
-        let mut i: u32 = 0;
-        while i < len {
-            let rule = rules[i as usize];
-            let found = rule.check(i);
-            if let Checked::Refused(_) = found {
-                return found;
-            }
-            i += 1;
+        for i in 0..len {
+            self.rules[i as usize].check(i)?;
         }
-        Checked::Accepted
+        Ok(())
     }
 }

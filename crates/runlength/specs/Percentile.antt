@@ -1,11 +1,10 @@
 -- TO BELIEVE: the percentile of a run length, by a test that says whether the cdf has reached it, and what two bounds say of it. Definitions.
-use Rattle.std.specs.Prelude.{Bool, cond, ℕ, zero, suc, ◌≤◌, ◌<◌, T}
-use Rattle.std.proofs.Math.Option.{Option, none, some}
+use Rattle.std.specs.Prelude.{Bool, cond, ℕ, zero, suc, ◌≤◌, ◌<◌, T, Option, Some, None}
 
 -- the least n from 1 to h that passes the test
 unfoldable pub least : (ℕ → Bool) → ℕ → Option ℕ
-least f zero = none
-least f (suc n) = elim (least f n) [ some k ↦ some k | none ↦ cond (f (suc n)) (some (suc n)) none ]
+least f zero = None
+least f (suc n) = elim (least f n) [ Some k ↦ Some k | None ↦ cond (f (suc n)) (Some (suc n)) None ]
 
 -- the percentile is n: reached at n, and at no smaller number from 1
 pub record Percentile (reached : ℕ → Bool) (n : ℕ) : Type 0 where
@@ -15,6 +14,6 @@ pub record Percentile (reached : ℕ → Bool) (n : ℕ) : Type 0 where
 
 -- what the bounds up to h say: no low bound, the percentile is beyond h; no high bound, it is not below the low one; else it is between them
 unfoldable pub Contains : (ℕ → Bool) → ℕ → Option ℕ → Option ℕ → Type 0
-Contains reached h none high = (n : ℕ) → Percentile reached n → h < n
-Contains reached h (some l) none = (n : ℕ) → Percentile reached n → l ≤ n
-Contains reached h (some l) (some u) = (n : ℕ) × Percentile reached n × (l ≤ n) × (n ≤ u)
+Contains reached h None high = (n : ℕ) → Percentile reached n → h < n
+Contains reached h (Some l) None = (n : ℕ) → Percentile reached n → l ≤ n
+Contains reached h (Some l) (Some u) = (n : ℕ) × Percentile reached n × (l ≤ n) × (n ≤ u)

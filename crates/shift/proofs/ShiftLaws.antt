@@ -1,11 +1,10 @@
 -- The weights of a shifted core by the areas below the limits. Laws.
-use Rattle.std.specs.Prelude.{ℕ, zero, suc, ◌+◌, ◌-◌, ◌*◌, ◌≤◌, ◌<◌, ◌≡◌, refl, Bool, true, false, cond, leb, ℤ, pos, negsuc, neg_ℤ, nat_abs, ◌+ℤ◌, ◌-ℤ◌, ◌≤ℤ◌}
+use Rattle.std.specs.Prelude.{ℕ, zero, suc, ◌+◌, ◌-◌, ◌*◌, ◌≤◌, ◌<◌, ◌≡◌, refl, Bool, true, false, cond, leb, ℤ, pos, negsuc, neg_ℤ, nat_abs, ◌+ℤ◌, ◌-ℤ◌, ◌≤ℤ◌, Err, Ok}
 use Rattle.std.proofs.Common.{sym, ap, ◌∙◌, arith, sub-add_cancel, leb→le, lit≤, leb-true}
 use Rattle.std.proofs.Math.IntN.{sub_ℕ, neg_ℤ-neg_ℤ, neg_ℤ-+ℤ, +ℤ_comm}
 use Rattle.rules.specs.declared.weights.ZoneWeights.{ZoneWeights}
 use Rattle.rules.specs.Refusal.{bad_shift}
 use Rattle.runlength.specs.Scale.{weight_total}
-use Rattle.shift.specs.declared.ShiftAnswer.TheVariants.{Accepted, Refused}
 use Rattle.shift.specs.Area.{area_at}
 use Rattle.shift.proofs.NormalArea.{normal_table}
 use Rattle.shift.specs.Shift.{max_shift, normal_area, area_between, band_weight, weights_of, shift_of}
@@ -168,11 +167,11 @@ in_bounds (negsuc n) h =
     )
 
 -- Whatever the operation accepts has the weights of a shifted core.
-pub weights_shifted : (s : ℤ) (w : ZoneWeights) → shift_of s ≡ Accepted w → Shifted s w
+pub weights_shifted : (s : ℤ) (w : ZoneWeights) → shift_of s ≡ Ok w → Shifted s w
 unfolding shift_of
 weights_shifted s w e = go (leb (nat_abs s) max_shift) refl e
   where
-    go : (b : Bool) → leb (nat_abs s) max_shift ≡ b → cond b (Accepted (weights_of s)) (Refused bad_shift) ≡ Accepted w → Shifted s w
+    go : (b : Bool) → leb (nat_abs s) max_shift ≡ b → cond b (Ok (weights_of s)) (Err bad_shift) ≡ Ok w → Shifted s w
     go true l e =
         let b = in_bounds s (leb-true (nat_abs s) max_shift l) in
         let same : weights_of s ≡ w = cc in
@@ -221,6 +220,6 @@ shift_mirrored s = rw (size s, weights_mirrored s) (go (leb (nat_abs s) max_shif
     size (pos (suc n)) = refl
     size (negsuc n) = refl
 
-    go : (b : Bool) → cond b (Accepted (mirrored (weights_of s))) (Refused bad_shift) ≡ mirrored_answer (cond b (Accepted (weights_of s)) (Refused bad_shift))
+    go : (b : Bool) → cond b (Ok (mirrored (weights_of s))) (Err bad_shift) ≡ mirrored_answer (cond b (Ok (weights_of s)) (Err bad_shift))
     go true = refl
     go false = refl

@@ -1,10 +1,9 @@
 -- TO BELIEVE: the weights of a shifted core. Definitions.
-use Rattle.std.specs.Prelude.{ℕ, suc, ◌+◌, ◌-◌, cond, leb, ℤ, pos, negsuc, neg_ℤ, nat_abs, ◌-ℤ◌}
+use Rattle.std.specs.Prelude.{ℕ, suc, ◌+◌, ◌-◌, cond, leb, ℤ, pos, negsuc, neg_ℤ, nat_abs, ◌-ℤ◌, Err, Ok, Result}
+use Rattle.rules.specs.declared.refusal.Refusal.{Refusal}
 use Rattle.rules.specs.declared.weights.ZoneWeights.{ZoneWeights}
 use Rattle.rules.specs.Refusal.{bad_shift}
 use Rattle.runlength.specs.Scale.{weight_total}
-use Rattle.shift.specs.declared.ShiftAnswer.{ShiftAnswer}
-use Rattle.shift.specs.declared.ShiftAnswer.TheVariants.{Accepted, Refused}
 use Rattle.shift.specs.Area.{area_at}
 
 -- a shift is from -150 to 150 hundredths of sigma
@@ -36,5 +35,5 @@ weights_of s =
     record { s = weight_total - (a1 + b1 + c1 + c2 + b2 + a2); a1 = a1; b1 = b1; c1 = c1; c2 = c2; b2 = b2; a2 = a2; c0 = 0 }
 
 -- 18 where the shift is out of bounds, and on no other condition
-unfoldable pub shift_of : ℤ → ShiftAnswer
-shift_of s = cond (leb (nat_abs s) max_shift) (Accepted (weights_of s)) (Refused bad_shift)
+unfoldable pub shift_of : ℤ → Result ZoneWeights Refusal
+shift_of s = cond (leb (nat_abs s) max_shift) (Ok (weights_of s)) (Err bad_shift)

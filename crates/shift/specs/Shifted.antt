@@ -1,9 +1,8 @@
 -- TO BELIEVE: what the weights of a shifted core are claimed to be. Definitions.
-use Rattle.std.specs.Prelude.{ℕ, ◌+◌, ◌≤◌, ◌<◌, ◌≡◌, ℤ, pos, neg_ℤ, ◌≤ℤ◌}
+use Rattle.std.specs.Prelude.{ℕ, ◌+◌, ◌≤◌, ◌<◌, ◌≡◌, ℤ, pos, neg_ℤ, ◌≤ℤ◌, Err, Ok, Result}
+use Rattle.rules.specs.declared.refusal.Refusal.{Refusal}
 use Rattle.rules.specs.declared.weights.ZoneWeights.{ZoneWeights}
 use Rattle.runlength.specs.Scale.{weight_total}
-use Rattle.shift.specs.declared.ShiftAnswer.{ShiftAnswer}
-use Rattle.shift.specs.declared.ShiftAnswer.TheVariants.{Accepted, Refused}
 use Rattle.shift.specs.Shift.{area_between}
 
 -- each of the six zones has the area between its two limits, over the integers, where nothing is cut off at 0
@@ -51,6 +50,6 @@ pub record Shifted (s : ℤ) (w : ZoneWeights) : Type 0 where
 abbrev pub mirrored : ZoneWeights → ZoneWeights
 mirrored w = record { s = w.s; a1 = w.a2; b1 = w.b2; c1 = w.c2; c2 = w.c1; b2 = w.b1; a2 = w.a1; c0 = w.c0 }
 
-abbrev pub mirrored_answer : ShiftAnswer → ShiftAnswer
-mirrored_answer (Accepted w) = Accepted (mirrored w)
-mirrored_answer (Refused x) = Refused x
+abbrev pub mirrored_answer : Result ZoneWeights Refusal → Result ZoneWeights Refusal
+mirrored_answer (Ok w) = Ok (mirrored w)
+mirrored_answer (Err x) = Err x

@@ -14,18 +14,10 @@ use areas::{AREAS, LAST};
 use rules::{Refusal, ZoneWeights};
 use runlength::WEIGHT_TOTAL;
 
-#[derive(Clone, Copy)]
-pub enum ShiftAnswer {
-    Accepted(ZoneWeights),
-    Refused(Refusal),
-}
+// The bounds of a shift, in hundredths of sigma.
+pub const MIN_SHIFT: i32 = -150;
 
-impl ShiftAnswer {
-    // The bounds of a shift, in hundredths of sigma.
-    pub const MIN_SHIFT: i32 = -150;
-
-    pub const MAX_SHIFT: i32 = 150;
-}
+pub const MAX_SHIFT: i32 = 150;
 
 // Probability one for a point, and half of it.
 const ONE: u32 = WEIGHT_TOTAL as u32;
@@ -72,20 +64,14 @@ fn weights_at(t: usize) -> ZoneWeights
 }
 
 // The weights of a core that is shifted by so many hundredths of sigma: refused by 18 where the shift is out of bounds.
-pub fn shift_weights(shift: i32) -> ShiftAnswer
+pub fn shift_weights(shift: i32) -> Result<ZoneWeights, Refusal>
     ensures { result ≡ shift_of shift }
 {
-    if shift < ShiftAnswer::MIN_SHIFT {
-        return ShiftAnswer::Refused(Refusal {
-            number: Refusal::SHIFT,
-            place: 0,
-        });
+    if shift < MIN_SHIFT {
+        return Err(Refusal::Shift);
     }
-    if shift > ShiftAnswer::MAX_SHIFT {
-        return ShiftAnswer::Refused(Refusal {
-            number: Refusal::SHIFT,
-            place: 0,
-        });
+    if shift > MAX_SHIFT {
+        return Err(Refusal::Shift);
     }
-    ShiftAnswer::Accepted(weights_at((shift + ShiftAnswer::MAX_SHIFT) as usize))
+    Ok(weights_at((shift + MAX_SHIFT) as usize))
 }

@@ -1,17 +1,14 @@
 -- The summary by what the table left, and what an accepted one has. Laws.
-use Rattle.std.specs.Prelude.{◌≡◌, refl, List, ℕ, ◌≤◌, length, take}
+use Rattle.std.specs.Prelude.{◌≡◌, refl, List, ℕ, ◌≤◌, length, take, Err, Ok, Result}
 use Rattle.std.proofs.Common.{sym, ap, ◌∙◌, le_refl, arith}
 use Rattle.rules.specs.declared.refusal.Refusal.{Refusal}
 use Rattle.table.specs.declared.TableFigures.{TableFigures}
-use Rattle.table.specs.declared.TableAnswer.{TableAnswer}
-use Rattle.table.specs.declared.TableAnswer.TheVariants as table
 use Rattle.table.specs.Table.{TableCall, table_of, pmf_of}
 use Rattle.table.specs.AcceptedTable.{AcceptedTable}
 use Rattle.table.proofs.AcceptedTableLaws.{accepted_table}
 use Rattle.bracket.specs.Limits.{min_percent, max_percent}
 use Rattle.bracket.specs.AcceptedBracket.{AcceptedBracket}
 use Rattle.summary.specs.declared.Summary.{Summary}
-use Rattle.summary.specs.declared.SummaryAnswer.TheVariants.{Accepted, Refused}
 use Rattle.summary.specs.Summary.{summary_by, summarized, summary_of}
 use Rattle.summary.specs.ErrorBoundLaws.{error_bound_most}
 use Rattle.summary.specs.AcceptedSummary.{Summarizable, AcceptedSummary}
@@ -40,17 +37,17 @@ table_summarizable a = record {
 
 -- ---- the operation, by what one run of the table left
 
-module _ (t : TableCall) {a : TableAnswer} {p s : List ℕ} (run : call_result a p s ≡ table_of t) where
-  pub refused_summary : {x : Refusal} → a ≡ table.Refused x → call_result (Refused x) p s ≡ summary_of t
+module _ (t : TableCall) {a : (Result TableFigures Refusal)} {p s : List ℕ} (run : call_result a p s ≡ table_of t) where
+  pub refused_summary : {x : Refusal} → a ≡ Err x → call_result (Err x) p s ≡ summary_of t
   unfolding summary_of summarized
   refused_summary e = rw (← run, e)
 
-  module _ {f : TableFigures} (accepted : a ≡ table.Accepted f) where
+  module _ {f : TableFigures} (accepted : a ≡ Ok f) where
     call : AcceptedTable t f
-    call = accepted_table t f (ap (λ (r : CallResult TableAnswer). r.answer) (sym run) ∙ accepted)
+    call = accepted_table t f (ap (λ (r : CallResult (Result TableFigures Refusal)). r.answer) (sym run) ∙ accepted)
 
     list_is : p ≡ (table_of t).pmf_list
-    list_is = ap (λ (r : CallResult TableAnswer). r.pmf_list) run
+    list_is = ap (λ (r : CallResult (Result TableFigures Refusal)). r.pmf_list) run
 
     -- the list of chances is long enough
     pub left_room : t.horizon ≤ length p
@@ -59,7 +56,7 @@ module _ (t : TableCall) {a : TableAnswer} {p s : List ℕ} (run : call_result a
     pub left_summarizable : Summarizable (take t.horizon p) f.state_count t.horizon
     left_summarizable = rw list_is (table_summarizable call)
 
-    pub accepted_run : {r : Summary} → r ≡ summary_by (take t.horizon p) f t.horizon → call_result (Accepted r) p s ≡ summary_of t
+    pub accepted_run : {r : Summary} → r ≡ summary_by (take t.horizon p) f t.horizon → call_result (Ok r) p s ≡ summary_of t
     unfolding summary_of summarized
     accepted_run e = rw (← run, accepted, e)
 
@@ -74,33 +71,33 @@ of_table {t} {f} a = record {
   error_most = error_bound_most f.state_count t.horizon a.few_states a.chain.most_horizon;
 }
 
-pub accepted_summary : (t : TableCall) (s : Summary) → (summary_of t).answer ≡ Accepted s → AcceptedSummary t s
+pub accepted_summary : (t : TableCall) (s : Summary) → (summary_of t).answer ≡ Ok s → AcceptedSummary t s
 unfolding summary_of summarized
 accepted_summary t s e = go (table_of t).answer refl e
   where
-    go : (a : TableAnswer) → (table_of t).answer ≡ a → summarized a t.horizon (table_of t).pmf_list ≡ Accepted s → AcceptedSummary t s
-    go (table.Accepted f) q d =
+    go : (a : Result TableFigures Refusal) → (table_of t).answer ≡ a → summarized a t.horizon (table_of t).pmf_list ≡ Ok s → AcceptedSummary t s
+    go (Ok f) q d =
         let same : s ≡ summary_by (pmf_of t) f t.horizon = cc in
         rw same (of_table (accepted_table t f q))
-    go (table.Refused x) q d = absurd (let z : ◌≡◌ {A = ℕ} 0 1 = cc in omega arith)
+    go (Err x) q d = absurd (let z : ◌≡◌ {A = ℕ} 0 1 = cc in omega arith)
 
 -- a refused summary is of a refused table
-pub refused_table_lem : (t : TableCall) (x : Refusal) → (summary_of t).answer ≡ Refused x → (table_of t).answer ≡ table.Refused x
+pub refused_table_lem : (t : TableCall) (x : Refusal) → (summary_of t).answer ≡ Err x → (table_of t).answer ≡ Err x
 unfolding summary_of summarized
 refused_table_lem t x e = go (table_of t).answer refl e
   where
-    go : (a : TableAnswer) → (table_of t).answer ≡ a → summarized a t.horizon (table_of t).pmf_list ≡ Refused x → (table_of t).answer ≡ table.Refused x
-    go (table.Accepted f) q d = absurd (let z : ◌≡◌ {A = ℕ} 0 1 = cc in omega arith)
-    go (table.Refused y) q d = let same : y ≡ x = cc in q ∙ ap table.Refused same
+    go : (a : Result TableFigures Refusal) → (table_of t).answer ≡ a → summarized a t.horizon (table_of t).pmf_list ≡ Err x → (table_of t).answer ≡ Err x
+    go (Ok f) q d = absurd (let z : ◌≡◌ {A = ℕ} 0 1 = cc in omega arith)
+    go (Err y) q d = let same : y ≡ x = cc in q ∙ ap Err same
 
 -- the table of an accepted summary answered its figures
-pub accepted_figures : (t : TableCall) (s : Summary) → (summary_of t).answer ≡ Accepted s → (table_of t).answer ≡ table.Accepted s.figures
+pub accepted_figures : (t : TableCall) (s : Summary) → (summary_of t).answer ≡ Ok s → (table_of t).answer ≡ Ok s.figures
 unfolding summary_of summarized summary_by
 accepted_figures t s e = go (table_of t).answer refl e
   where
-    go : (a : TableAnswer) → (table_of t).answer ≡ a → summarized a t.horizon (table_of t).pmf_list ≡ Accepted s
-        → (table_of t).answer ≡ table.Accepted s.figures
-    go (table.Accepted f) q d =
+    go : (a : Result TableFigures Refusal) → (table_of t).answer ≡ a → summarized a t.horizon (table_of t).pmf_list ≡ Ok s
+        → (table_of t).answer ≡ Ok s.figures
+    go (Ok f) q d =
         let same : s ≡ summary_by (pmf_of t) f t.horizon = cc in
-        q ∙ ap table.Accepted (sym (ap (λ (x : Summary). x.figures) same))
-    go (table.Refused x) q d = absurd (let z : ◌≡◌ {A = ℕ} 0 1 = cc in omega arith)
+        q ∙ ap Ok (sym (ap (λ (x : Summary). x.figures) same))
+    go (Err x) q d = absurd (let z : ◌≡◌ {A = ℕ} 0 1 = cc in omega arith)

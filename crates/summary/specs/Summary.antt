@@ -1,14 +1,11 @@
 -- TO BELIEVE: the summary of a table: what the operation answers, and what the two lent lists then hold. Definitions.
-use Rattle.std.specs.Prelude.{ℕ, List, take}
+use Rattle.std.specs.Prelude.{ℕ, List, take, Err, Ok, Result}
+use Rattle.rules.specs.declared.refusal.Refusal.{Refusal}
 use Rattle.runlength.specs.Chain.{error_bound_of}
 use Rattle.table.specs.declared.TableFigures.{TableFigures}
-use Rattle.table.specs.declared.TableAnswer.{TableAnswer}
-use Rattle.table.specs.declared.TableAnswer.TheVariants as table
 use Rattle.table.specs.Table.{TableCall, table_of}
 use Rattle.bracket.specs.Bracket.{percentile_bracket}
 use Rattle.summary.specs.declared.Summary.{Summary}
-use Rattle.summary.specs.declared.SummaryAnswer.{SummaryAnswer}
-use Rattle.summary.specs.declared.SummaryAnswer.TheVariants.{Accepted, Refused}
 use Rattle.table.specs.Table.{CallResult, call_result}
 
 -- the table's figures, the error bound of its mean, and the brackets of five percentiles, by its chances and its number of states
@@ -24,13 +21,13 @@ summary_by pmf f h = record {
 }
 
 -- by the table's answer and the list of chances that it leaves, of which the first h count; refused as the table is
-unfoldable pub summarized : TableAnswer → ℕ → List ℕ → SummaryAnswer
-summarized (table.Accepted f) h p = Accepted (summary_by (take h p) f h)
-summarized (table.Refused x) h p = Refused x
+unfoldable pub summarized : Result TableFigures Refusal → ℕ → List ℕ → Result Summary Refusal
+summarized (Ok f) h p = Ok (summary_by (take h p) f h)
+summarized (Err x) h p = Err x
 
 -- by the table's result, whose lists it leaves
-abbrev pub summary_after : ℕ → CallResult TableAnswer → CallResult SummaryAnswer
+abbrev pub summary_after : ℕ → CallResult (Result TableFigures Refusal) → CallResult (Result Summary Refusal)
 summary_after h r = call_result (summarized r.answer h r.pmf_list) r.pmf_list r.survival_list
 
-unfoldable pub summary_of : TableCall → CallResult SummaryAnswer
+unfoldable pub summary_of : TableCall → CallResult (Result Summary Refusal)
 summary_of t = summary_after t.horizon (table_of t)

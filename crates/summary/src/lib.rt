@@ -12,7 +12,7 @@ ghost use Rattle.table.specs.Table.{call_result};
 
 use bracket::{Bracket, find_bracket};
 use rules::{Refusal, RuleList, ZONES};
-use table::{TableAnswer, TableFigures};
+use table::TableFigures;
 
 // The error bound (document 01's allowed shortfall) is of the mean, in units of 2^-60. Of each percent the bracket of its percentile.
 #[derive(Clone, Copy)]
@@ -24,12 +24,6 @@ pub struct Summary {
     pub p50: Bracket,
     pub p75: Bracket,
     pub p95: Bracket,
-}
-
-#[derive(Clone, Copy)]
-pub enum SummaryAnswer {
-    Accepted(Summary),
-    Refused(Refusal),
 }
 
 // The error bound of the mean cut at the horizon: states × horizon × (horizon - 1) / 2.
@@ -66,15 +60,10 @@ pub fn table_summary(
     horizon: u32,
     pmf: &mut [u64],
     survival: &mut [u64],
-) -> SummaryAnswer
+) -> Result<Summary, Refusal>
     ensures { call_result result pmf.new survival.new
         ≡ summary_of (table_call list weights horizon pmf.old survival.old) }
 {
-    let answer = table::run_length_table(list, weights, horizon, pmf, survival);
-    match answer {
-        TableAnswer::Refused(refusal) => SummaryAnswer::Refused(refusal),
-        TableAnswer::Accepted(figures) => {
-            SummaryAnswer::Accepted(summarize(&pmf[..horizon as usize], figures, horizon))
-        }
-    }
+    let figures = table::run_length_table(list, weights, horizon, pmf, survival)?;
+    Ok(summarize(&pmf[..horizon as usize], figures, horizon))
 }

@@ -1,9 +1,8 @@
 -- An accepted call of the table has all that `AcceptedTable` says. Laws.
-use Rattle.std.specs.Prelude.{◌≡◌, refl, List, ℕ, suc, ◌*◌, ◌≤◌, ◌<◌, leb, length, take, drop}
+use Rattle.std.specs.Prelude.{◌≡◌, refl, List, ℕ, suc, ◌*◌, ◌≤◌, ◌<◌, leb, length, take, drop, Err, Ok, Result}
 use Rattle.std.proofs.Math.Path.{ap}
 use Rattle.std.proofs.Common.{◌∙◌, div-add-mod', arith, take_at, leb-true}
-use Rattle.rules.specs.declared.Checked.{Checked}
-use Rattle.rules.specs.declared.Checked.TheVariants.{Accepted, Refused}
+use Rattle.rules.specs.declared.refusal.Refusal.{Refusal}
 use Rattle.rules.specs.Refusal.{short_list}
 use Rattle.rules.proofs.CheckLaws.{both_accept}
 use Rattle.runlength.specs.Scale.{units_per_one}
@@ -13,8 +12,7 @@ use Rattle.runlength.specs.TabLaws.{length_tab, get_d_tab, front_length, front_a
 use Rattle.runlength.specs.Chain.{Chain, Proper, pmf, cdf, survival, restricted_mean, cdf_of}
 use Rattle.runlength.proofs.ConservationLaws.{mass_conservation}
 use Rattle.table.specs.declared.TableFigures.{TableFigures}
-use Rattle.table.specs.declared.TableAnswer.{TableAnswer}
-use Rattle.rules.specs.Check.{unless}
+use Rattle.rules.specs.Check.{Checked, unless}
 use Rattle.table.specs.Table.{TableCall, rules_of, chain_of, chain_check, table_check, figures_of, filled, table_of, pmf_of}
 use Rattle.table.specs.AcceptedTable.{AcceptedChain, AcceptedTable}
 use Rattle.chain.specs.TableChainLaws.{count_some, count_explored, chain_proper}
@@ -45,10 +43,10 @@ module _ (t : TableCall) (chart : AcceptedChain t.list t.weights t.horizon) (pmf
   is_proper = chain_proper (rules_of t) t.weights chart.weights
 
   pmf_is : (table_of t).pmf_list ≡ front t.horizon (λ k. pmf (chain_of t) (suc k)) t.pmf_before
-  pmf_is = ap (λ (x : CallResult TableAnswer). x.pmf_list) r
+  pmf_is = ap (λ (x : CallResult (Result TableFigures Refusal)). x.pmf_list) r
 
   survival_is : (table_of t).survival_list ≡ front t.horizon (λ k. survival (chain_of t) (suc k)) t.survival_before
-  survival_is = ap (λ (x : CallResult TableAnswer). x.survival_list) r
+  survival_is = ap (λ (x : CallResult (Result TableFigures Refusal)). x.survival_list) r
 
   written : pmf_of t ≡ tab t.horizon (λ k. pmf (chain_of t) (suc k))
   written = ap (take t.horizon) pmf_is ∙ take_front t.horizon (λ k. pmf (chain_of t) (suc k)) t.pmf_before
@@ -90,19 +88,19 @@ module _ (t : TableCall) (chart : AcceptedChain t.list t.weights t.horizon) (pmf
   }
 
 -- an accepted answer is that of a call that passed
-pub accepted_table : (t : TableCall) (f : TableFigures) → (table_of t).answer ≡ TableAnswer.Accepted f → AcceptedTable t f
+pub accepted_table : (t : TableCall) (f : TableFigures) → (table_of t).answer ≡ Ok f → AcceptedTable t f
 unfolding table_of table_check
 accepted_table t f e = go (table_check t) refl
   where
     go : (c : Checked) → table_check t ≡ c → AcceptedTable t f
-    go Accepted q =
+    go (Ok tt) q =
         let r : table_of t ≡ filled (chain_of t) t = rw q in
         let a = both_accept (chain_check t.list t.weights t.horizon) _ q in
         let b = both_accept (unless (leb t.horizon (length t.pmf_before)) short_list) _ a.1 in
-        let same : f ≡ figures_of (chain_of t) t.horizon = cc (ap (λ (x : CallResult TableAnswer). x.answer) r) in
+        let same : f ≡ figures_of (chain_of t) t.horizon = cc (ap (λ (x : CallResult (Result TableFigures Refusal)). x.answer) r) in
         rw same
         (left_figures t (accepted_chain t.list t.weights t.horizon a.0) (leb-true _ _ (passed _ short_list b.0))
         (leb-true _ _ (passed _ short_list b.1)) r)
-    go (Refused x) q =
-        let r : (table_of t).answer ≡ TableAnswer.Refused x = rw q in
+    go (Err x) q =
+        let r : (table_of t).answer ≡ Err x = rw q in
         absurd (let z : ◌≡◌ {A = ℕ} 0 1 = cc in omega arith)

@@ -1,21 +1,18 @@
 -- What the table operation answers, case by case. Laws.
-use Rattle.std.specs.Prelude.{◌≡◌, refl, List, ℕ, suc, ◌/◌, ◌%◌, ◌≤◌, ◌<◌, length}
+use Rattle.std.specs.Prelude.{◌≡◌, refl, List, ℕ, suc, ◌/◌, ◌%◌, ◌≤◌, ◌<◌, length, Err, Ok}
 use Rattle.std.proofs.Math.Path.{ap}
 use Rattle.std.proofs.Common.{◌∙◌, arith}
 use borrow.Author.Tests.{le-leb, lt-leb}
 use Rattle.rules.specs.declared.refusal.Refusal.{Refusal}
-use Rattle.rules.specs.declared.Checked.{Checked}
-use Rattle.rules.specs.declared.Checked.TheVariants.{Accepted, Refused}
 use Rattle.rules.specs.Bounds.{zone_count}
 use Rattle.rules.specs.Refusal.{short_list}
-use Rattle.rules.specs.Check.{or_else}
+use Rattle.rules.specs.Check.{Checked, or_else}
 use Rattle.runlength.specs.Scale.{units_per_one}
 use Rattle.runlength.specs.Sum.{at, front}
 use Rattle.runlength.specs.Chain.{pmf, survival, restricted_mean}
 use Rattle.runlength.specs.Listed.{listed_chain}
 use Rattle.rows.specs.Rows.{Ran}
 use Rattle.table.specs.declared.TableFigures.{TableFigures}
-use Rattle.table.specs.declared.TableAnswer.{TableAnswer}
 use Rattle.chain.specs.TableChain.{chain_moves, table_automaton}
 use Rattle.table.specs.Table.{TableCall, rules_of, chain_of, chain_check, table_check, filled, table_of}
 use Rattle.chain.specs.HeldMoves.{HoldsMoves}
@@ -25,13 +22,13 @@ use Rattle.table.specs.Table.{call_result}
 module _ (t : TableCall) where
   -- refused with both lists as they were
   abbrev RefusedBy : Refusal → Type 0
-  RefusedBy x = call_result (TableAnswer.Refused x) t.pmf_before t.survival_before ≡ table_of t
+  RefusedBy x = call_result (Err x) t.pmf_before t.survival_before ≡ table_of t
 
-  pub chain_refused : {x : Refusal} → chain_check t.list t.weights t.horizon ≡ Refused x → RefusedBy x
+  pub chain_refused : {x : Refusal} → chain_check t.list t.weights t.horizon ≡ Err x → RefusedBy x
   unfolding table_of table_check
   chain_refused e = rw e
 
-  module _ (chart : chain_check t.list t.weights t.horizon ≡ Accepted) where
+  module _ (chart : chain_check t.list t.weights t.horizon ≡ Ok tt) where
     pub short_pmf : length t.pmf_before < t.horizon → RefusedBy short_list
     unfolding table_of table_check
     short_pmf n = rw (chart, lt-leb t.horizon (length t.pmf_before) n)
@@ -53,7 +50,7 @@ module _ (t : TableCall) {m p' s' : List ℕ} {n last whole fraction : ℕ} (e :
   abbrev figures : TableFigures
   figures = record { state_count = n; survival = last; mean_whole = whole; mean_fraction = fraction }
 
-  pub rows_filled : call_result (TableAnswer.Accepted figures) p' s' ≡ filled (chain_of t) t
+  pub rows_filled : call_result (Ok figures) p' s' ≡ filled (chain_of t) t
   unfolding table_automaton
   rows_filled =
       let h = t.horizon in
@@ -80,19 +77,19 @@ room_check t p s =
     rw (le-leb t.horizon (length t.pmf_before) p, le-leb t.horizon (length t.survival_before) s)
     (go (chain_check t.list t.weights t.horizon))
   where
-    go : (c : Checked) → or_else c (or_else Accepted Accepted) ≡ c
-    go Accepted = refl
-    go (Refused x) = refl
+    go : (c : Checked) → or_else c (or_else (Ok tt) (Ok tt)) ≡ c
+    go (Ok tt) = refl
+    go (Err x) = refl
 
-pub refused_check : (t : TableCall) (x : Refusal) → (table_of t).answer ≡ TableAnswer.Refused x → table_check t ≡ Refused x
+pub refused_check : (t : TableCall) (x : Refusal) → (table_of t).answer ≡ Err x → table_check t ≡ Err x
 unfolding table_of
 refused_check t x e = go (table_check t) refl
   where
-    go : (c : Checked) → table_check t ≡ c → table_check t ≡ Refused x
-    go Accepted q =
+    go : (c : Checked) → table_check t ≡ c → table_check t ≡ Err x
+    go (Ok tt) q =
         let r = rw q at e in
         absurd (let z : ◌≡◌ {A = ℕ} 0 1 = cc in omega arith)
-    go (Refused y) q =
+    go (Err y) q =
         let r = rw q at e in
         let same : y ≡ x = cc in
-        q ∙ ap Refused same
+        q ∙ ap Err same

@@ -1,7 +1,6 @@
 -- What a chain and a table call that are accepted have: all that the layers above may use. Working definitions.
-use Rattle.std.specs.Prelude.{◌≡◌, List, ℕ, suc, ◌≤◌, ◌<◌, length}
+use Rattle.std.specs.Prelude.{◌≡◌, List, ℕ, suc, ◌≤◌, ◌<◌, length, Ok}
 use Rattle.rules.specs.declared.RuleList.{RuleList}
-use Rattle.rules.specs.declared.Checked.TheVariants.{Accepted}
 use Rattle.rules.specs.Bounds.{zone_count, max_states}
 use Rattle.rules.specs.Check.{active_rules, check_of}
 use Rattle.rules.specs.InBounds.{AllInBounds}
@@ -14,7 +13,7 @@ use Rattle.table.specs.Table.{TableCall, rules_of, chain_of, table_of, pmf_of, m
 
 -- the rules, the weights, the horizon and the states explored are in bounds
 pub record AcceptedChain (l : RuleList) (w : List ℕ) (h : ℕ) : Type 0 where
-  pub rules : check_of l ≡ Accepted
+  pub rules : check_of l ≡ Ok tt
   pub bounds : AllInBounds (active_rules l)
   pub weights : sum zone_count (at w) ≡ weight_total
   pub some_horizon : min_horizon ≤ h

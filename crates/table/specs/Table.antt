@@ -1,18 +1,16 @@
 -- TO BELIEVE: the table operation: what it answers, and what the two lent lists then hold. Definitions.
-use Rattle.std.specs.Prelude.{ℕ, suc, ◌+◌, ◌*◌, ◌/◌, ◌%◌, List, leb, eqb, length, take}
+use Rattle.std.specs.Prelude.{ℕ, suc, ◌+◌, ◌*◌, ◌/◌, ◌%◌, List, leb, eqb, length, take, Err, Ok, Result}
+use Rattle.rules.specs.declared.refusal.Refusal.{Refusal}
 use Rattle.rules.specs.declared.Rule.{Rule}
 use Rattle.rules.specs.declared.RuleList.{RuleList}
-use Rattle.rules.specs.declared.Checked.{Checked}
-use Rattle.rules.specs.declared.Checked.TheVariants.{Accepted, Refused}
 use Rattle.rules.specs.Bounds.{zone_count, max_states}
 use Rattle.rules.specs.Refusal.{bad_weights, bad_horizon, too_many_states, short_list}
-use Rattle.rules.specs.Check.{within, or_else, unless, active_rules, check_of}
+use Rattle.rules.specs.Check.{Checked, within, or_else, unless, active_rules, check_of}
 use Rattle.runlength.specs.Scale.{min_horizon, max_horizon, weight_total, units_per_one}
 use Rattle.runlength.specs.Sum.{at, sum, front}
 use Rattle.runlength.specs.Chain.{Chain, pmf, survival, restricted_mean}
 use Rattle.chain.specs.TableChain.{explored_count, table_chain}
 use Rattle.table.specs.declared.TableFigures.{TableFigures}
-use Rattle.table.specs.declared.TableAnswer.{TableAnswer}
 
 -- a call: a chart (rules, weights and a horizon), and the two lent lists as they were
 pub record TableCall : Type 0 where
@@ -70,18 +68,18 @@ figures_of c h = record {
 }
 
 -- the figures of n = 1 to the horizon in the first places, and the places beyond kept
-abbrev pub filled : Chain → TableCall → CallResult TableAnswer
+abbrev pub filled : Chain → TableCall → CallResult (Result TableFigures Refusal)
 filled c t =
-    call_result (TableAnswer.Accepted (figures_of c t.horizon))
+    call_result (Ok (figures_of c t.horizon))
     (front t.horizon (λ k. pmf c (suc k)) t.pmf_before)
     (front t.horizon (λ k. survival c (suc k)) t.survival_before)
 
 -- a refusal leaves both lists as they were
-abbrev pub table_by : Checked → TableCall → CallResult TableAnswer
-table_by Accepted t = filled (chain_of t) t
-table_by (Refused x) t = call_result (TableAnswer.Refused x) t.pmf_before t.survival_before
+abbrev pub table_by : Checked → TableCall → CallResult (Result TableFigures Refusal)
+table_by (Ok tt) t = filled (chain_of t) t
+table_by (Err x) t = call_result (Err x) t.pmf_before t.survival_before
 
-unfoldable pub table_of : TableCall → CallResult TableAnswer
+unfoldable pub table_of : TableCall → CallResult (Result TableFigures Refusal)
 table_of t = table_by (table_check t) t
 
 -- ---- what is read of it

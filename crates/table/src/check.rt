@@ -1,22 +1,13 @@
 // The checks of a chain: its rules, weights, horizon and number of states.
-ghost use Rattle.std.specs.Prelude.{◌≡◌, ◌*◌, length};
+ghost use Rattle.std.specs.Prelude.{◌≡◌, ◌*◌, Ok, length};
 ghost use Rattle.rules.specs.Bounds.{zone_count, max_states};
 ghost use Rattle.rules.specs.Check.{check_of};
-ghost use Rattle.rules.specs.Refusal.{refusal};
-ghost use Rattle.rules.specs.declared.Checked.TheVariants.{Accepted};
 ghost use Rattle.runlength.specs.Sum.{at, sum};
 ghost use Rattle.chain.specs.KeepsMoves.{KeepsMoves};
 ghost use Rattle.table.specs.ChainChecked.{ChainChecked};
 
-use chain::ChainAnswer;
-use rules::{Checked, Refusal, RuleList, ZONES};
+use rules::{Refusal, RuleList, ZONES};
 use runlength::{MAX_HORIZON, MIN_HORIZON, WEIGHT_TOTAL};
-
-fn refused(number: u32) -> ChainAnswer
-    ensures { result ≡ ChainAnswer.Refused (refusal number 0) }
-{
-    ChainAnswer::Refused(Refusal { number, place: 0 })
-}
 
 // The exact sum of the weights: a few 32-bit numbers do not fill 64 bits.
 fn weight_sum(weights: &[u32]) -> u64
@@ -24,10 +15,8 @@ fn weight_sum(weights: &[u32]) -> u64
     ensures { result ≡ sum zone_count (at weights.now) }
 {
     let mut total: u64 = 0;
-    let mut z: usize = 0;
-    while z < ZONES {
-        total += weights[z] as u64;
-        z += 1;
+    for z in 0..ZONES {
+        total += u64::from(weights[z]);
     }
     total
 }
@@ -39,20 +28,20 @@ fn explored_chain(
     weights: [u32; ZONES],
     horizon: u32,
     moves: &mut [u16],
-) -> ChainAnswer
-    requires list_value { check_of list ≡ Accepted }
+) -> Result<usize, Refusal>
+    requires list_value { check_of list ≡ Ok tt }
     requires moves_len { length moves.old ≡ zone_count * max_states }
     ensures checked { ChainChecked list weights horizon moves.new result }
     ensures kept { KeepsMoves moves.old moves.new result }
 {
     if weight_sum(&weights) != WEIGHT_TOTAL {
-        return refused(Refusal::WEIGHTS);
+        return Err(Refusal::Weights);
     }
     if horizon < MIN_HORIZON {
-        return refused(Refusal::HORIZON);
+        return Err(Refusal::Horizon);
     }
     if horizon > MAX_HORIZON {
-        return refused(Refusal::HORIZON);
+        return Err(Refusal::Horizon);
     }
     chain::chain_moves(list, moves)
 }
@@ -64,14 +53,11 @@ pub fn check_chain(
     weights: [u32; ZONES],
     horizon: u32,
     moves: &mut [u16],
-) -> ChainAnswer
+) -> Result<usize, Refusal>
     requires { length moves.old ≡ zone_count * max_states }
     ensures checked { ChainChecked list weights horizon moves.new result }
     ensures kept { KeepsMoves moves.old moves.new result }
 {
-    let checked = list.check();
-    match checked {
-        Checked::Refused(refusal) => ChainAnswer::Refused(refusal),
-        Checked::Accepted => explored_chain(list, weights, horizon, moves),
-    }
+    list.check()?;
+    explored_chain(list, weights, horizon, moves)
 }

@@ -5,7 +5,6 @@ ghost use Rattle.std.specs.Prelude.{◌≡◌};
 ghost use Rattle.table.specs.Table.{table_call, table_of};
 ghost use Rattle.table.specs.Table.{call_result};
 
-use chain::ChainAnswer;
 use rules::{Refusal, RuleList, ZONES};
 
 mod check;
@@ -22,12 +21,6 @@ pub struct TableFigures {
     pub mean_fraction: u64,
 }
 
-#[derive(Clone, Copy)]
-pub enum TableAnswer {
-    Accepted(TableFigures),
-    Refused(Refusal),
-}
-
 // The run-length table: refused by 2, 3, 4; 8; 9; 10; 11, in this order, with both lists as they were; else the chance of a signal at each
 // n from 1 to the horizon stands in `pmf`, the chance of none so far in `survival`, in units of 2^-60, and the places beyond are kept.
 pub fn run_length_table(
@@ -36,31 +29,21 @@ pub fn run_length_table(
     horizon: u32,
     pmf: &mut [u64],
     survival: &mut [u64],
-) -> TableAnswer
+) -> Result<TableFigures, Refusal>
     ensures { call_result result pmf.new survival.new
         ≡ table_of (table_call list weights horizon pmf.old survival.old) }
 {
     let mut moves = [0u16; ZONES * RuleList::MAX_STATES];
-    let checked = check_chain(list, weights, horizon, &mut moves);
-    let n = match checked {
-        ChainAnswer::Refused(refusal) => return TableAnswer::Refused(refusal),
-        ChainAnswer::Accepted(n) => n,
-    };
+    let n = check_chain(list, weights, horizon, &mut moves)?;
     let h = horizon as usize;
     if pmf.len() < h {
-        return TableAnswer::Refused(Refusal {
-            number: Refusal::SHORT_LIST,
-            place: 0,
-        });
+        return Err(Refusal::ShortList);
     }
     if survival.len() < h {
-        return TableAnswer::Refused(Refusal {
-            number: Refusal::SHORT_LIST,
-            place: 0,
-        });
+        return Err(Refusal::ShortList);
     }
     let totals = rows::run_rows(&moves, n, &weights, h, pmf, survival);
-    TableAnswer::Accepted(TableFigures {
+    Ok(TableFigures {
         state_count: n as u32,
         survival: totals.survival,
         mean_whole: totals.mean_whole,

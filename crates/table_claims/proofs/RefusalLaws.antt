@@ -1,10 +1,9 @@
 -- By which numbers a chart is refused. Laws.
-use Rattle.std.specs.Prelude.{ℕ, ◌≡◌, List, leb, eqb}
+use Rattle.std.specs.Prelude.{ℕ, ◌≡◌, List, leb, eqb, Err}
 use Rattle.rules.specs.declared.RuleList.{RuleList}
 use Rattle.rules.specs.declared.refusal.Refusal.{Refusal}
-use Rattle.rules.specs.declared.Checked.TheVariants.{Refused}
 use Rattle.rules.specs.Bounds.{zone_count, max_states}
-use Rattle.rules.specs.Refusal.{bad_weights, bad_horizon, too_many_states}
+use Rattle.rules.specs.Refusal.{number_of, bad_weights, bad_horizon, too_many_states}
 use Rattle.rules.specs.Check.{within, unless, active_rules, check_of}
 use Rattle.rules.specs.Numbers.{rule_numbers, OneOf, here, there}
 use Rattle.rules.proofs.NumbersLaws.{on_both, refused_by_lem, list_number}
@@ -20,7 +19,7 @@ more_numbers (there (here e)) = there (here e)
 more_numbers (there (there (here e))) = there (there (here e))
 more_numbers (there (there (there o))) = elim o [ ]
 
-pub chain_number : (l : RuleList) (w : List ℕ) (h : ℕ) (x : Refusal) → chain_check l w h ≡ Refused x → OneOf chain_numbers x.number
+pub chain_number : (l : RuleList) (w : List ℕ) (h : ℕ) (x : Refusal) → chain_check l w h ≡ Err x → OneOf chain_numbers (number_of x)
 unfolding chain_check
 chain_number l w h x e =
     let weights = eqb (sum zone_count (at w)) weight_total in

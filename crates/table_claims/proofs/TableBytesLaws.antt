@@ -1,7 +1,8 @@
 -- The table program's text by its contents. Laws.
-use Rattle.std.specs.Prelude.{ℕ, ◌≤◌, ◌≡◌, List, length}
+use Rattle.std.specs.Prelude.{ℕ, ◌≤◌, ◌≡◌, List, length, Result, Ok}
 use Rattle.std.proofs.Common.{sym, ap, ◌∙◌, arith}
 use Rattle.rules.specs.declared.Rule.{Rule}
+use Rattle.rules.specs.declared.refusal.Refusal.{Refusal}
 use Rattle.rules.specs.Bounds.{zone_count, max_rules}
 use Rattle.rules.specs.Check.{active_rules}
 use Rattle.grammar.specs.NumberFields.{numbers_in}
@@ -17,7 +18,7 @@ use Rattle.rule_lines.specs.RulesLaws.{active_rules_lem, said_values, values_sai
 use Rattle.table_text.specs.declared.TableText.{TableText}
 use Rattle.table_text.specs.TableGrammar.{table_grammar, table_contents}
 use Rattle.table_text.specs.TableText.{table_given, table_text}
-use Rattle.table_text.specs.ReadTable.{refused_table, read_table}
+use Rattle.table_text.specs.ReadTable.{read_table}
 use Rattle.table_text.specs.TableTextLaws.{clear_table}
 use Rattle.table_claims.specs.TableTexts.{TableTextIs}
 
@@ -42,7 +43,7 @@ pub table_is : {s : List ℕ} (c : Contents table_grammar) → TextIs table_gram
 table_is {s} c t l = record { text = rw (contents_said c) t; short = l; zones = numbers_length zone_count c.0 }
 
 -- The lines of weights, rules and a horizon are read back.
-pub table_read : {s : List ℕ} {w : List ℕ} {rs : List Rule} {h : ℕ} → TableTextIs s w rs h → table_text s ≡ read_table w rs h
+pub table_read : {s : List ℕ} {w : List ℕ} {rs : List Rule} {h : ℕ} → TableTextIs s w rs h → table_text s ≡ Ok (read_table w rs h)
 unfolding table_text table_given
 table_read {s} {w} {rs} {h} t = rw (is_reading table_grammar clear_table s (right t.short t.text), in_values zone_count w t.zones, said_values rs)
 
@@ -56,24 +57,25 @@ table_text_once {s} {w} {w'} {rs} {rs'} {h} {h'} t t' =
       ap horizon_in e,
     )
 
--- A text is accepted, by the number 0, exactly where it is the lines of weights, rules and a horizon: then it gives these.
-pub table_accepted : (s : List ℕ) → (table_text s).refusal.number ≡ 0
+-- A text is accepted exactly where it is the lines of weights, rules and a horizon: then it gives these.
+pub table_accepted : (s : List ℕ) (t : TableText) → table_text s ≡ Ok t
     → (w : List ℕ) × (rs : List Rule) × (h : ℕ) × TableTextIs s w rs h
-unfolding table_text table_given refused_table
-table_accepted s z = go (read_text table_grammar s) (reading_is table_grammar clear_table s) z
+unfolding table_text table_given
+table_accepted s t z = go (read_text table_grammar s) (reading_is table_grammar clear_table s) z
   where
-    go : (r : Reading (Contents table_grammar)) → ReadingIs table_grammar s r → (table_given r).refusal.number ≡ 0
+    go : (r : Reading (Contents table_grammar)) → ReadingIs table_grammar s r → table_given r ≡ Ok t
         → (w : List ℕ) × (rs : List Rule) × (h : ℕ) × TableTextIs s w rs h
-    go r (too_long_lem l) z = absurd (omega arith)
-    go r (wrong l st) z = absurd (omega arith)
+    go r (too_long_lem l) z = absurd (let z : ◌≡◌ {A = ℕ} 0 1 = cc in omega arith)
+    go r (wrong l st) z = absurd (let z : ◌≡◌ {A = ℕ} 0 1 = cc in omega arith)
     go r (right {c} l t) z = (weights_in c, rules_in c, horizon_in c, table_is c t l)
 
 -- The same by the equation with what is read, for the rules that a list has slots for.
-pub table_exactly : {s : List ℕ} {w : List ℕ} {rs : List Rule} {h : ℕ} → length rs ≤ max_rules → table_text s ≡ read_table w rs h → TableTextIs s w rs h
+pub table_exactly : {s : List ℕ} {w : List ℕ} {rs : List Rule} {h : ℕ} → length rs ≤ max_rules → table_text s ≡ Ok (read_table w rs h) → TableTextIs s w rs h
 unfolding read_table rule_list_of
 table_exactly {s} {w} {rs} {h} few e =
-    let a = table_accepted s (ap (λ (t : TableText). t.refusal.number) e) in
-    let same : read_table a.0 a.1 a.2 ≡ read_table w rs h = sym (table_read a.3) ∙ e in
+    let a = table_accepted s (read_table w rs h) e in
+    let both : ◌≡◌ {A = Result TableText Refusal} (Ok (read_table a.0 a.1 a.2)) (Ok (read_table w rs h)) = sym (table_read a.3) ∙ e in
+    let same : read_table a.0 a.1 a.2 ≡ read_table w rs h = cc in
     let ws : a.0 ≡ w = ap (λ (t : TableText). t.weights) same in
     let count : length a.1 ≡ length rs = ap (λ (t : TableText). t.list.len) same in
     let list : active_rules (rule_list_of a.1) ≡ active_rules (rule_list_of rs) = ap (λ (t : TableText). active_rules t.list) same in

@@ -1,10 +1,9 @@
 -- A table's lines, row by row. Laws.
-use Rattle.std.specs.Prelude.{ℕ, zero, suc, ◌+◌, ◌≤◌, ◌<◌, ◌≡◌, refl, Bool, true, false, List, [], ◌∷◌, ◌++◌, ltb, get_or}
+use Rattle.std.specs.Prelude.{ℕ, zero, suc, ◌+◌, ◌≤◌, ◌<◌, ◌≡◌, refl, Bool, true, false, List, [], ◌∷◌, ◌++◌, ltb, get_or, Ok}
 use Rattle.std.proofs.Common.{sym, ap, ◌∙◌, append_assoc, append-nil, arith, ltb-true, ltb-false}
 use Rattle.rules.specs.declared.Rule.{Rule}
 use Rattle.runlength.specs.Sum.{tab}
 use Rattle.runlength.specs.TabLaws.{tab_cong}
-use Rattle.bracket.specs.declared.BracketAnswer.{BracketAnswer}
 use Rattle.bracket.specs.Bracket.{bracket_of}
 use Rattle.decimal.specs.Fields.{field, fields}
 use Rattle.write.specs.Refused.{refused_line}
@@ -127,8 +126,8 @@ same_hold {w} {rs} {h} {f} {g} e t =
 
 -- the bracket of the same chances, with the same N
 same_bracket : {h : ℕ} {f g : Figures} → SameFigures h f g → (p : ℕ) → f.bracket p ≡ g.bracket p
-    → bracket_of (tab h (λ k. f.pmf (suc k))) f.count p ≡ BracketAnswer.Accepted (f.bracket p)
-    → bracket_of (tab h (λ k. g.pmf (suc k))) g.count p ≡ BracketAnswer.Accepted (g.bracket p)
+    → bracket_of (tab h (λ k. f.pmf (suc k))) f.count p ≡ Ok (f.bracket p)
+    → bracket_of (tab h (λ k. g.pmf (suc k))) g.count p ≡ Ok (g.bracket p)
 same_bracket {h} {f} {g} e p q b =
     let c : tab h (λ k. f.pmf (suc k)) ≡ tab h (λ k. g.pmf (suc k)) =
     tab_cong h _ _ (λ k i. (e.rows (suc k) (omega arith) (omega arith)).0) in

@@ -1,7 +1,6 @@
 -- CLAIM: the table program, for every text, of the bytes that its output function's contract names.
-use Rattle.std.specs.Prelude.{ℕ, ◌≡◌, List}
+use Rattle.std.specs.Prelude.{ℕ, ◌≡◌, List, Ok}
 use Rattle.rules.specs.declared.Rule.{Rule}
-use Rattle.rules.specs.declared.Checked.TheVariants.{Accepted}
 use Rattle.table.specs.Table.{chain_check}
 use Rattle.rule_lines.specs.Rules.{rule_list_of}
 use Rattle.write.specs.Printed.{printed_bytes}
@@ -19,7 +18,7 @@ table_program = table_program_proved
 
 -- The other way round: a text that is the lines of weights, rules and a horizon which make a chart is not refused.
 pub table_printed_lem : {s : List ℕ} {w : List ℕ} {rs : List Rule} {h : ℕ} → TableTextIs s w rs h
-    → chain_check (rule_list_of rs) w (report_horizon h) ≡ Accepted
+    → chain_check (rule_list_of rs) w (report_horizon h) ≡ Ok tt
     → (f : Figures) × (printed_bytes (table_printed s) ≡ figure_lines h f) × FiguresHold w rs h f
 table_printed_lem = table_printed_proved
 
@@ -28,6 +27,6 @@ pub table_program_by_row : (s : List ℕ) → TableProgramByRow s (printed_bytes
 table_program_by_row = table_program_by_row_proved
 
 pub table_printed_by_row : {s : List ℕ} {w : List ℕ} {rs : List Rule} {h : ℕ} → TableTextIs s w rs h
-    → chain_check (rule_list_of rs) w (report_horizon h) ≡ Accepted
+    → chain_check (rule_list_of rs) w (report_horizon h) ≡ Ok tt
     → (f : Figures) × (printed_bytes (table_printed s) ≡ figure_lines h f) × FiguresHoldByRow w rs h f
 table_printed_by_row = table_printed_by_row_proved

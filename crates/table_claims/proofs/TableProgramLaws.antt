@@ -1,6 +1,6 @@
 -- What the table program prints, case by case. Laws.
 use Prim.Native.Nat.{ℕ, zero, suc, ◌+◌, ◌*◌, ◌≤◌}
-use Rattle.std.specs.Prelude.{◌≡◌, Bool, true, false, cond, List, leb, eqb, length, take, drop}
+use Rattle.std.specs.Prelude.{◌≡◌, Bool, true, false, cond, List, leb, eqb, length, take, drop, Err, Ok, Result}
 use Rattle.std.proofs.Math.Path.{refl, sym, ap}
 use Rattle.std.proofs.Common.{◌∙◌, arith, le_refl, leb-true}
 use Rattle.std.proofs.lemmas.List.{length-replicate}
@@ -8,8 +8,7 @@ use Rattle.std.proofs.Math.Seq.{take_at}
 use Rattle.rules.specs.declared.Rule.{Rule}
 use Rattle.rules.specs.declared.RuleList.{RuleList}
 use Rattle.rules.specs.declared.refusal.Refusal.{Refusal}
-use Rattle.rules.specs.declared.Checked.TheVariants.{Accepted, Refused}
-use Rattle.rules.specs.Refusal.{bad_line, too_long}
+use Rattle.rules.specs.Refusal.{place_of, number_of, bad_line, too_long}
 use Rattle.runlength.specs.Scale.{units_per_one}
 use Rattle.runlength.specs.Sum.{tab, front}
 use Rattle.runlength.specs.TabLaws.{length_tab}
@@ -19,12 +18,10 @@ use Rattle.table.specs.Table.{TableCall, table_call, rules_of, chain_of, chain_c
 use Rattle.table.proofs.ChainCheckLaws.{chain_accepted, accepted_chain}
 use Rattle.table.proofs.TableLaws.{room_check, refused_check}
 use Rattle.bracket.specs.Contains.{BracketContains}
-use Rattle.bracket.specs.declared.BracketAnswer.{BracketAnswer}
 use Rattle.bracket.specs.Limits.{min_percent, max_percent}
 use Rattle.bracket.specs.Bracket.{percentile_bracket, bracket_of}
 use Rattle.bracket.proofs.BracketLaws.{accepted_bracket}
 use Rattle.summary.specs.declared.Summary.{Summary}
-use Rattle.summary.specs.declared.SummaryAnswer.{SummaryAnswer}
 use Rattle.summary.specs.Summary.{summary_by, summary_of}
 use Rattle.summary.specs.AcceptedSummary.{AcceptedSummary}
 use Rattle.summary.proofs.SummaryLaws.{accepted_summary, accepted_figures, refused_table_lem}
@@ -32,14 +29,14 @@ use Rattle.table_text.specs.declared.TableText.{TableText}
 use Rattle.rule_lines.specs.Rules.{rule_list_of}
 use Rattle.rule_lines.specs.RulesLaws.{active_rules_lem, rules_few}
 use Rattle.table_text.specs.TableText.{table_given, table_text}
-use Rattle.table_text.specs.ReadTable.{refused_table, read_table}
+use Rattle.table_text.specs.ReadTable.{read_table}
 use Rattle.table_lines.specs.RowLine.{row_line, table_rows}
 use Rattle.table_lines.specs.PercentLine.{percent_lines}
 use Rattle.table_lines.specs.LargestHorizon.{max_rows}
 use Rattle.table_lines.specs.TableLines.{table_bytes}
 use Rattle.write.specs.Printed.{refused_by, printed_bytes}
 use Rattle.table_lines.specs.LargestHorizon.{report_horizon}
-use Rattle.table_report.specs.TableReport.{report_call, table_lines, summary_lines, blank, table_printed}
+use Rattle.table_report.specs.TableReport.{text_lines, report_call, table_lines, summary_lines, blank, table_printed}
 use Rattle.table_report.specs.TableReportLaws.{horizon_small}
 use Rattle.grammar.specs.Grammar.{Contents}
 use Rattle.grammar.specs.TextReading.{read_text}
@@ -63,7 +60,7 @@ use Rattle.table_claims.proofs.ChainFiguresLaws.{figures_by_chain}
 
 -- ---- the lines of an accepted table are those of the chain's figures
 
-module _ (t : TableCall) (s : Summary) (ok : (summary_of t).answer ≡ SummaryAnswer.Accepted s) where
+module _ (t : TableCall) (s : Summary) (ok : (summary_of t).answer ≡ Ok s) where
   call : AcceptedSummary t s
   call = accepted_summary t s ok
 
@@ -109,7 +106,7 @@ module _ (t : TableCall) (s : Summary) (ok : (summary_of t).answer ≡ SummaryAn
 
   bracket_is : (percent : ℕ) → min_percent ≤ percent → percent ≤ max_percent
       → bracket_of (tab t.horizon (λ k. pmf (chain_of t) (suc k))) s.figures.state_count percent
-      ≡ BracketAnswer.Accepted (percentile_bracket (pmf_of t) s.figures.state_count percent)
+      ≡ Ok (percentile_bracket (pmf_of t) s.figures.state_count percent)
   bracket_is percent low high =
       ap (λ l. bracket_of l s.figures.state_count percent) (sym chances_are)
       ∙ accepted_bracket (pmf_of t) s.figures.state_count percent (call.brackets percent low high)
@@ -169,7 +166,7 @@ same_figures_by_row o p q t = rw (← o, ← p, ← q) t
 same_figures_for : {w w' : List ℕ} {rs rs' : List Rule} {h h' : ℕ} {f : Figures} → w ≡ w' → rs ≡ rs' → h ≡ h' → FiguresHold w rs h f → FiguresHold w' rs' h' f
 same_figures_for o p q t = rw (← o, ← p, ← q) t
 
-same_check : (l : RuleList) (w : List ℕ) {h h' : ℕ} → h ≡ h' → chain_check l w h ≡ Accepted → chain_check l w h' ≡ Accepted
+same_check : (l : RuleList) (w : List ℕ) {h h' : ℕ} → h ≡ h' → chain_check l w h ≡ Ok tt → chain_check l w h' ≡ Ok tt
 same_check l w p t = rw (← p) t
 
 module _ (s : List ℕ) (w : List ℕ) (rs : List Rule) (h : ℕ) (is : TableTextIs s w rs h) where
@@ -179,34 +176,30 @@ module _ (s : List ℕ) (w : List ℕ) (rs : List Rule) (h : ℕ) (is : TableTex
   room : report_horizon h ≤ length blank
   room = rw blank_length (horizon_small h)
 
-  by_answer : (a : SummaryAnswer) → (summary_of t).answer ≡ a
+  by_answer : (a : Result Summary Refusal) → (summary_of t).answer ≡ a
       → TableProgramByRow s (printed_bytes (table_lines a (report_horizon h) (summary_of t).pmf_list (summary_of t).survival_list))
   unfolding printed_bytes summary_of
-  by_answer (SummaryAnswer.Accepted x) e =
+  by_answer (Ok x) e =
       let c = (accepted_summary t x e).table.chain in
       let k = horizon_kept h c.some_horizon in
       prints_by_row w rs h (figures t x e) is k.1
       (same_check (rule_list_of rs) w k.0 (chain_accepted c))
       (lines_are t x e ∙ ap (λ n. figure_lines n (figures t x e)) k.0)
       (same_figures_by_row refl (active_rules_lem rs (rules_few rs c.rules)) k.0 (figures_hold t x e))
-  by_answer (SummaryAnswer.Refused x) e =
-      let c : chain_check (rule_list_of rs) w (report_horizon h) ≡ Refused x =
+  by_answer (Err x) e =
+      let c : chain_check (rule_list_of rs) w (report_horizon h) ≡ Err x =
       sym (room_check t room room) ∙ refused_check t x (refused_table_lem t x e) in
-      refuses_by_row x.number x.place refl (bad_table w rs h x is c (chain_number (rule_list_of rs) w (report_horizon h) x c))
+      refuses_by_row (number_of x) (place_of x) refl (bad_table w rs h x is c (chain_number (rule_list_of rs) w (report_horizon h) x c))
 
 -- For every text: one refusal line, with the number and the place of a reason that holds of the text; or the text is the lines of weights w,
 -- rules rs and a horizon h, and what is printed is the lines of figures that are those over rows of the plain chart.
 pub table_program_by_row : (s : List ℕ) → TableProgramByRow s (printed_bytes (table_printed s))
-unfolding table_printed printed_bytes table_text table_given refused_table read_table
+unfolding table_printed printed_bytes table_text table_given read_table
 table_program_by_row s = go (read_text table_grammar s) (reading_is table_grammar clear_table s)
   where
-    printed : TableText → List ℕ
-    printed t =
-        printed_bytes (cond (eqb t.refusal.number 0) (summary_lines (summary_of (report_call t)) (report_horizon t.horizon)) (refused_by t.refusal))
-
-    go : (r : Reading (Contents table_grammar)) → ReadingIs table_grammar s r → TableProgramByRow s (printed (table_given r))
-    go r (too_long_lem l) = refuses_by_row too_long.number 0 refl (table_too_long l)
-    go r (wrong {n} l st) = refuses_by_row (bad_line n).number n refl (table-bad-line n l st)
+    go : (r : Reading (Contents table_grammar)) → ReadingIs table_grammar s r → TableProgramByRow s (printed_bytes (text_lines (table_given r)))
+    go r (too_long_lem l) = refuses_by_row (number_of too_long) 0 refl (table_too_long l)
+    go r (wrong {n} l st) = refuses_by_row (number_of (bad_line n)) n refl (table-bad-line n l st)
     go r (right {c} l t) =
         by_answer s (weights_in c) (rules_in c) (horizon_in c) (table_is c t l)
         (summary_of (table_call (rule_list_of (rules_in c)) (weights_in c) (report_horizon (horizon_in c)) blank blank)).answer refl
@@ -225,29 +218,32 @@ table_program s = go (table_program_by_row s)
 
 -- a text that is the lines of weights, rules and a horizon which make a chart has no reason to be refused
 no_refusal : {s : List ℕ} {w : List ℕ} {rs : List Rule} {h : ℕ} → TableTextIs s w rs h
-    → chain_check (rule_list_of rs) w (report_horizon h) ≡ Accepted → {n p : ℕ} → TableRefusal s n p → ⊥
-unfolding refused_table read_table
+    → chain_check (rule_list_of rs) w (report_horizon h) ≡ Ok tt → {n p : ℕ} → TableRefusal s n p → ⊥
+unfolding read_table
 no_refusal {s} {w} {rs} {h} is ok r = go r
   where
-    clash : {t : TableText} → table_text s ≡ t → (t.refusal.number ≡ 0 → ⊥) → ⊥
-    clash e n = n (ap (λ (t : TableText). t.refusal.number) (sym e ∙ table_read is))
+    clash : {x : Refusal} → table_text s ≡ Err x → ⊥
+    clash {x} e =
+        let same : ◌≡◌ {A = Result TableText Refusal} (Err x) (Ok (read_table w rs h)) = sym e ∙ table_read is in
+        let z : ◌≡◌ {A = ℕ} 0 1 = cc in
+        omega arith
 
     checked : {w' : List ℕ} {rs' : List Rule} {h' : ℕ} {x : Refusal} → TableTextIs s w' rs' h'
-        → chain_check (rule_list_of rs') w' (report_horizon h') ≡ Refused x → ⊥
+        → chain_check (rule_list_of rs') w' (report_horizon h') ≡ Err x → ⊥
     checked {w'} {rs'} {h'} {x} is' e =
         let o = table_text_once is is' in
-        let q : chain_check (rule_list_of rs) w (report_horizon h) ≡ Refused x = rw (o.0, o.1, o.2) e in
+        let q : chain_check (rule_list_of rs) w (report_horizon h) ≡ Err x = rw (o.0, o.1, o.2) e in
         let z : ◌≡◌ {A = ℕ} 0 1 = cc in
         omega arith
 
     go : {n p : ℕ} → TableRefusal s n p → ⊥
-    go (table_too_long l) = clash (text-too-long s l) (λ z. omega arith)
-    go (table-bad-line place l st) = clash (table_stopped l st) (λ z. omega arith)
+    go (table_too_long l) = clash (text-too-long s l)
+    go (table-bad-line place l st) = clash (table_stopped l st)
     go (bad_table w' rs' h' x is' c o) = checked is' c
 
 -- The other way round: a text that is the lines of weights, rules and a horizon which make a chart is not refused.
 pub table_printed_lem : {s : List ℕ} {w : List ℕ} {rs : List Rule} {h : ℕ} → TableTextIs s w rs h
-    → chain_check (rule_list_of rs) w (report_horizon h) ≡ Accepted
+    → chain_check (rule_list_of rs) w (report_horizon h) ≡ Ok tt
     → (f : Figures) × (printed_bytes (table_printed s) ≡ figure_lines h f) × FiguresHold w rs h f
 table_printed_lem {s} {w} {rs} {h} is ok = go (table_program s)
   where
@@ -258,7 +254,7 @@ table_printed_lem {s} {w} {rs} {h} is ok = go (table_program s)
         (f, e ∙ ap (λ n. figure_lines n f) o.2, same_figures_for o.0 o.1 o.2 t)
 
 pub table_printed_by_row : {s : List ℕ} {w : List ℕ} {rs : List Rule} {h : ℕ} → TableTextIs s w rs h
-    → chain_check (rule_list_of rs) w (report_horizon h) ≡ Accepted
+    → chain_check (rule_list_of rs) w (report_horizon h) ≡ Ok tt
     → (f : Figures) × (printed_bytes (table_printed s) ≡ figure_lines h f) × FiguresHoldByRow w rs h f
 table_printed_by_row {s} {w} {rs} {h} is ok = go (table_program_by_row s)
   where

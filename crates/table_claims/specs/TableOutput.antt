@@ -1,10 +1,9 @@
 -- TO BELIEVE: what the table program's printed bytes are claimed to be: one refusal line and its reason, or the lines of figures that demands 2 and 3
 -- speak of. Definitions.
-use Rattle.std.specs.Prelude.{ℕ, zero, suc, ◌+◌, ◌-◌, ◌*◌, ◌/◌, ◌^◌, ◌≤◌, ◌<◌, ◌≡◌, List, [], ◌∷◌, ◌++◌, length}
+use Rattle.std.specs.Prelude.{ℕ, zero, suc, ◌+◌, ◌-◌, ◌*◌, ◌/◌, ◌^◌, ◌≤◌, ◌<◌, ◌≡◌, List, [], ◌∷◌, ◌++◌, length, Err, Ok}
 use Rattle.rules.specs.declared.Rule.{Rule}
 use Rattle.rules.specs.declared.refusal.Refusal.{Refusal}
-use Rattle.rules.specs.declared.Checked.TheVariants.{Accepted, Refused}
-use Rattle.rules.specs.Refusal.{bad_rule_count, bad_rule_bounds, bad_zone_set, bad_weights, bad_horizon, too_many_states, bad_line, too_long}
+use Rattle.rules.specs.Refusal.{place_of, number_of, bad_rule_count, bad_rule_bounds, bad_zone_set, bad_weights, bad_horizon, too_many_states, bad_line, too_long}
 use Rattle.rules.specs.Numbers.{OneOf}
 use Rattle.runlength.specs.Scale.{weight_total, units_per_one}
 use Rattle.runlength.specs.Sum.{sum, tab}
@@ -12,7 +11,6 @@ use Rattle.runlength.specs.Chain.{pmf, cdf, survival, restricted_mean}
 use Rattle.chain.specs.TableChain.{state_count, table_chain}
 use Rattle.table.specs.Table.{chain_check}
 use Rattle.bracket.specs.declared.Bracket.{Bracket}
-use Rattle.bracket.specs.declared.BracketAnswer.{BracketAnswer}
 use Rattle.bracket.specs.Bracket.{bracket_of}
 use Rattle.bracket.specs.Contains.{BracketContains}
 use Rattle.grammar.specs.Grammar.{Stops}
@@ -31,7 +29,7 @@ use Rattle.table_claims.specs.TableTexts.{TableTextIs}
 -- the numbers that a chart is refused by: 2, 3, 4; 8; 9; 10
 abbrev pub chain_numbers : List ℕ
 chain_numbers =
-    bad_rule_count.number ∷ (bad_rule_bounds 0).number ∷ (bad_zone_set 0).number ∷ bad_weights.number ∷ bad_horizon.number ∷ (too_many_states 0).number ∷ []
+    number_of bad_rule_count ∷ number_of (bad_rule_bounds 0) ∷ number_of (bad_zone_set 0) ∷ number_of bad_weights ∷ number_of bad_horizon ∷ number_of (too_many_states 0) ∷ []
 
 -- f 1, f 2, .., f h, one behind the other
 unfoldable pub rows : ℕ → (ℕ → List ℕ) → List ℕ
@@ -112,17 +110,17 @@ pub record FiguresHoldByRow (w : List ℕ) (rs : List Rule) (h : ℕ) (f : Figur
   pub mean_bounds : ((f.whole * units_per_one + f.fraction) * weight_total ^ h ≤ exact_mean rs w h * units_per_one)
       × (exact_mean rs w h * units_per_one ≤ (f.whole * units_per_one + f.fraction + f.error_bound) * weight_total ^ h)
   -- each q line is the bracket of exactly the printed chances with the printed N, and it contains the true percentile
-  pub brackets_are : EachPercent (λ p. bracket_of (tab h (λ k. f.pmf (suc k))) f.count p ≡ BracketAnswer.Accepted (f.bracket p))
+  pub brackets_are : EachPercent (λ p. bracket_of (tab h (λ k. f.pmf (suc k))) f.count p ≡ Ok (f.bracket p))
   pub contains : EachPercent (λ p. BracketContains (reached rs w p) (f.bracket p))
 
 -- why a table text is refused, with the number and the place: the text itself, 17 or 16; or its rules, weights and horizon, the first number
 -- of the table operation's that applies
 pub data TableRefusal (s : List ℕ) : ℕ → ℕ → Type 0 where
-  too_long_lem : max_text < length s → TableRefusal s too_long.number 0
-  bad_line_lem : (place : ℕ) → length s ≤ max_text → Stops table_grammar s place → TableRefusal s (bad_line place).number place
+  too_long_lem : max_text < length s → TableRefusal s (number_of too_long) 0
+  bad_line_lem : (place : ℕ) → length s ≤ max_text → Stops table_grammar s place → TableRefusal s (number_of (bad_line place)) place
   bad_table : (w : List ℕ) (rs : List Rule) (h : ℕ) (x : Refusal) → TableTextIs s w rs h
-      → chain_check (rule_list_of rs) w (report_horizon h) ≡ Refused x
-      → OneOf chain_numbers x.number → TableRefusal s x.number x.place
+      → chain_check (rule_list_of rs) w (report_horizon h) ≡ Err x
+      → OneOf chain_numbers (number_of x) → TableRefusal s (number_of x) (place_of x)
 
 -- what the table program prints for the text s
 pub data TableProgram (s : List ℕ) (printed : List ℕ) : Type 0 where
@@ -130,7 +128,7 @@ pub data TableProgram (s : List ℕ) (printed : List ℕ) : Type 0 where
   refuses : (number place : ℕ) → printed ≡ refused_line number place → TableRefusal s number place → TableProgram s printed
   -- the lines of figures that hold of the weights, rules and horizon whose lines the text is
   prints : (w : List ℕ) (rs : List Rule) (h : ℕ) (f : Figures) → TableTextIs s w rs h
-      → h ≤ max_rows → chain_check (rule_list_of rs) w h ≡ Accepted
+      → h ≤ max_rows → chain_check (rule_list_of rs) w h ≡ Ok tt
       → printed ≡ figure_lines h f → FiguresHold w rs h f → TableProgram s printed
 
 -- the same, with the figures said over rows of the plain chart
@@ -139,7 +137,7 @@ pub data TableProgramByRow (s : List ℕ) (printed : List ℕ) : Type 1 where
   refuses_by_row : (number place : ℕ) → printed ≡ refused_line number place → TableRefusal s number place → TableProgramByRow s printed
   -- the lines of figures that hold of the weights, rules and horizon whose lines the text is
   prints_by_row : (w : List ℕ) (rs : List Rule) (h : ℕ) (f : Figures) → TableTextIs s w rs h
-      → h ≤ max_rows → chain_check (rule_list_of rs) w h ≡ Accepted
+      → h ≤ max_rows → chain_check (rule_list_of rs) w h ≡ Ok tt
       → printed ≡ figure_lines h f → FiguresHoldByRow w rs h f → TableProgramByRow s printed
 
 -- the row n has the same numbers
@@ -156,4 +154,4 @@ pub record SameFigures (h : ℕ) (f g : Figures) : Type 0 where
 
 -- the numbers that a text is refused by
 abbrev pub table_numbers : List ℕ
-table_numbers = too_long.number ∷ (bad_line 0).number ∷ chain_numbers
+table_numbers = number_of too_long ∷ number_of (bad_line 0) ∷ chain_numbers

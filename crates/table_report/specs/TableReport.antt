@@ -1,7 +1,8 @@
 -- BY CONTRACT: what the table program prints for a text, by what its parser gives. `table_program` says what it is, from bytes to bytes. Definitions.
-use Rattle.std.specs.Prelude.{ℕ, cond, List, eqb, replicate}
+use Rattle.std.specs.Prelude.{ℕ, List, replicate, Err, Ok, Result}
+use Rattle.summary.specs.declared.Summary.{Summary}
+use Rattle.rules.specs.declared.refusal.Refusal.{Refusal}
 use Rattle.table.specs.Table.{TableCall, table_call}
-use Rattle.summary.specs.declared.SummaryAnswer.{SummaryAnswer}
 use Rattle.summary.specs.Summary.{summary_of}
 use Rattle.table_text.specs.declared.TableText.{TableText}
 use Rattle.table_text.specs.TableText.{table_text}
@@ -19,16 +20,17 @@ abbrev pub report_call : TableText → TableCall
 report_call t = table_call t.list t.weights (report_horizon t.horizon) blank blank
 
 -- the table's lines, or its refusal
-abbrev pub table_lines : SummaryAnswer → ℕ → List ℕ → List ℕ → Printed
-table_lines (SummaryAnswer.Accepted s) h pmf survival = lines (table_bytes s h pmf survival)
-table_lines (SummaryAnswer.Refused x) h pmf survival = refused_by x
+abbrev pub table_lines : Result Summary Refusal → ℕ → List ℕ → List ℕ → Printed
+table_lines (Ok s) h pmf survival = lines (table_bytes s h pmf survival)
+table_lines (Err x) h pmf survival = refused_by x
 
-abbrev pub summary_lines : CallResult SummaryAnswer → ℕ → Printed
+abbrev pub summary_lines : CallResult (Result Summary Refusal) → ℕ → Printed
 summary_lines r h = table_lines r.answer h r.pmf_list r.survival_list
 
--- what was read: a refusal of the text, or the table
+-- what was read: the table, or a refusal of the text
+abbrev pub text_lines : Result TableText Refusal → Printed
+text_lines (Ok t) = summary_lines (summary_of (report_call t)) (report_horizon t.horizon)
+text_lines (Err x) = refused_by x
+
 unfoldable pub table_printed : List ℕ → Printed
-table_printed s =
-    cond (eqb (table_text s).refusal.number 0)
-    (summary_lines (summary_of (report_call (table_text s))) (report_horizon (table_text s).horizon))
-    (refused_by (table_text s).refusal)
+table_printed s = text_lines (table_text s)

@@ -6,9 +6,10 @@ ghost use Rattle.write.specs.Printed.{report, report_of, printed_bytes, OutputIs
 ghost use Rattle.table_lines.specs.LargestHorizon.{report_horizon};
 ghost use Rattle.table_report.specs.TableReport.{table_printed};
 
-use summary::{SummaryAnswer, table_summary};
+use rules::Refusal;
+use summary::table_summary;
 use table_lines::MAX_ROWS;
-use write::{ReportAnswer, put_answer};
+use write::put_answer;
 
 // Room for the table program's lines at its largest horizon.
 pub const TABLE_SIZE: usize = table_lines::TABLE_ROOM;
@@ -22,27 +23,21 @@ fn report_horizon(h: u32) -> u32
 
 // The table program's lines for a text, in the lent buffer; or the refusal, with the buffer as it was: 17; 16; then the table's own, with 9
 // also for a horizon over 4,096.
-pub fn table_report(text: &[u8], out: &mut [u8; TABLE_SIZE]) -> ReportAnswer
+pub fn table_report(text: &[u8], out: &mut [u8; TABLE_SIZE]) -> Result<usize, Refusal>
     ensures { report result out.new ≡ report_of (table_printed text.now) out.old }
 {
-    let read = table_text::table_text(text);
-    let refusal = read.refusal;
-    if refusal.number != 0 {
-        return ReportAnswer::Refused(refusal);
-    }
-    let list = read.list;
-    let weights = read.weights;
+    let read = table_text::table_text(text)?;
     let horizon = report_horizon(read.horizon);
     let mut pmf = [0u64; MAX_ROWS as usize];
     let mut survival = [0u64; MAX_ROWS as usize];
-    let answer = table_summary(list, weights, horizon, &mut pmf, &mut survival);
-    match answer {
-        SummaryAnswer::Refused(r) => ReportAnswer::Refused(r),
-        SummaryAnswer::Accepted(summary) => {
-            let n = table_lines::put_table(out, summary, horizon as usize, &pmf, &survival);
-            ReportAnswer::Written(n)
-        }
-    }
+    let summary = table_summary(read.list, read.weights, horizon, &mut pmf, &mut survival)?;
+    Ok(table_lines::put_table(
+        out,
+        summary,
+        horizon as usize,
+        &pmf,
+        &survival,
+    ))
 }
 
 // The table program's output, from the buffer's start; what is behind it is kept.

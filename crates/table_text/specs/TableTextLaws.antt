@@ -1,5 +1,5 @@
 -- The cases of the table program's text, each as its return meets it. Laws.
-use Rattle.std.specs.Prelude.{ℕ, ◌+◌, ◌≤◌, ◌<◌, ◌≡◌, length}
+use Rattle.std.specs.Prelude.{ℕ, ◌+◌, ◌≤◌, ◌<◌, ◌≡◌, length, None, Some}
 use Rattle.std.proofs.Math.Path.{refl, ap}
 use Rattle.std.proofs.Common.{sym, ◌∙◌, arith, le-leb}
 use mathlib.Core.List.{List, [], ◌∷◌}
@@ -8,7 +8,6 @@ use Rattle.std.proofs.lemmas.Bool.{lt-leb}
 use Rattle.rules.specs.declared.RuleList.{RuleList}
 use Rattle.rules.specs.Bounds.{zone_count}
 use Rattle.rules.specs.Refusal.{not_refused, bad_line, too_long}
-use Rattle.decimal.specs.declared.word.Found.TheVariants.{At, Absent}
 use Rattle.grammar.specs.LineValues.{number}
 use Rattle.grammar.specs.NumberFields.{numbers, numbers_in}
 use Rattle.grammar.proofs.NumberFieldsLaws.{numbers_length}
@@ -51,7 +50,7 @@ given : List ℕ → RuleList → ℕ → TableText
 given w l h = record { refusal = not_refused; weights = w; list = l; horizon = h }
 
 module _ (s : List ℕ) (short : length s ≤ max_text) {f : LineRead} (fe : f ≡ line_read_at weights_word (numbers zone_count) s 0) where
-  pub other_first : f.next ≡ Absent → refused_table (bad_line 1) ≡ table_text s
+  pub other_first : f.next ≡ None → refused_table (bad_line 1) ≡ table_text s
   unfolding table_given read_text
   other_first q =
       let b : read_text table_grammar s ≡ stopped 1 =
@@ -59,7 +58,7 @@ module _ (s : List ℕ) (short : length s ≤ max_text) {f : LineRead} (fe : f �
       (read_other (line weights_line) (many rule_line ∷ one horizon_line ∷ []) s 0 1 (line_none weights_word (numbers zone_count) s 0 fe q)) in
       of_reading s b
 
-  module _ {at : ℕ} (q : f.next ≡ At at) {r : RulesRead} (re : r ≡ rules_read s at 2) where
+  module _ {at : ℕ} (q : f.next ≡ Some at) {r : RulesRead} (re : r ≡ rules_read s at 2) where
     w : SeenLine weights_word (numbers zone_count) s 0 f at
     w = line_seen weights_word (numbers zone_count) s 0 fe q
 
@@ -93,10 +92,10 @@ module _ (s : List ℕ) (short : length s ≤ max_text) {f : LineRead} (fe : f �
         ap refused_table b.0 ∙ not_last (other_word s r.next 114 b.1.0 _ b.1.1 104 _ (number ∷ []) (λ e. omega arith))
 
     module _ {l : LineRead} (le : l ≡ line_read_at horizon_word (number ∷ []) s r.next) where
-      pub other_last : l.next ≡ Absent → refused_table (bad_line r.line) ≡ table_text s
+      pub other_last : l.next ≡ None → refused_table (bad_line r.line) ≡ table_text s
       other_last n = not_last (line_none horizon_word (number ∷ []) s r.next le n)
 
-      module _ {end : ℕ} (n : l.next ≡ At end) where
+      module _ {end : ℕ} (n : l.next ≡ Some end) where
         x : SeenLine horizon_word (number ∷ []) s r.next l end
         x = line_seen horizon_word (number ∷ []) s r.next le n
 

@@ -1,8 +1,5 @@
 -- What the line parser gives of a line of a kind. Working definitions.
-use Rattle.std.specs.Prelude.{ℕ, zero, suc, cond, List, [], ◌∷◌, ◌++◌, eqb}
-use Rattle.decimal.specs.declared.number.Number.{Number}
-use Rattle.decimal.specs.declared.word.Found.{Found}
-use Rattle.decimal.specs.declared.word.Found.TheVariants.{At, Absent}
+use Rattle.std.specs.Prelude.{ℕ, zero, suc, cond, List, [], ◌∷◌, ◌++◌, eqb, None, Option, Some}
 use Rattle.decimal.specs.Word.{newline, word_at, on_found}
 use Rattle.decimal.specs.Number.{field_at, on_number}
 use Rattle.decimal.specs.Signed.{signed_field_at, raised, raised_of}
@@ -38,28 +35,25 @@ slots_of zero l = []
 slots_of (suc n) [] = 0 ∷ slots_of n []
 slots_of (suc n) (x ∷ l) = x ∷ slots_of n l
 
-abbrev pub line_read : Found → List ℕ → LineRead
+abbrev pub line_read : ℕ → List ℕ → LineRead
 line_read next values = record { next = next; values = slots_of most_fields values }
 
-abbrev pub no_line : LineRead
-no_line = line_read Absent []
-
 -- what is given of what is seen
-abbrev pub line_of : (fs : List Field) → Seen (Values fs) → LineRead
-line_of fs (found x next) = line_read (At next) (codes fs x)
-line_of fs other = no_line
+abbrev pub line_of : (fs : List Field) → Seen (Values fs) → Option LineRead
+line_of fs (found x next) = Some (line_read next (codes fs x))
+line_of fs other = None
 
 -- the line at an offset, where one of the word with these fields is asked for
-unfoldable pub line_read_at : List ℕ → List Field → List ℕ → ℕ → LineRead
+unfoldable pub line_read_at : List ℕ → List Field → List ℕ → ℕ → Option LineRead
 line_read_at word fs s at = line_of fs (values_at word fs s at)
 
 -- ---- field by field
 
-abbrev pub code_at : Field → List ℕ → ℕ → Number
+abbrev pub code_at : Field → List ℕ → ℕ → Option (ℕ × ℕ)
 code_at number s p = field_at s p
 code_at signed s p = raised_of (signed_field_at s p)
 
 -- the fields from p on and LF, behind those whose values are w
-unfoldable pub codes_from : List Field → List ℕ → ℕ → List ℕ → LineRead
-codes_from [] s p w = on_found (word_at newline s p) (λ next. line_read (At next) w) no_line
-codes_from (f ∷ fs) s p w = on_number (code_at f s p) (λ x e. codes_from fs s e (w ++ (x ∷ []))) no_line
+unfoldable pub codes_from : List Field → List ℕ → ℕ → List ℕ → Option LineRead
+codes_from [] s p w = on_found (word_at newline s p) (λ next. Some (line_read next w)) None
+codes_from (f ∷ fs) s p w = on_number (code_at f s p) (λ x e. codes_from fs s e (w ++ (x ∷ []))) None

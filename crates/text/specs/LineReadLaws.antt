@@ -1,14 +1,10 @@
 -- What the line parser gives is what is seen of the kind. Laws.
-use Rattle.std.specs.Prelude.{ℕ, zero, suc, ◌+◌, ◌<◌, ◌≤◌, length, get_or, set, take, drop, replicate}
+use Rattle.std.specs.Prelude.{ℕ, zero, suc, ◌+◌, ◌<◌, ◌≤◌, length, get_or, set, take, drop, replicate, None, Option, Some}
 use Rattle.std.proofs.Math.Path.{◌≡◌, refl, ap}
 use Rattle.std.proofs.Common.{sym, ◌∙◌, arith, drop_of_length-le, drop-cons, get_or-set_other}
 use mathlib.Core.List.{List, [], ◌∷◌, ◌++◌, append-nil}
 use Rattle.std.proofs.Math.Numerals.{add-one}
 use Rattle.std.proofs.Math.Seq.{append_snoc, take-suc-set}
-use Rattle.decimal.specs.declared.number.Number.{Number}
-use Rattle.decimal.specs.declared.number.Number.TheVariants.{Value as ANumber, NoNumber}
-use Rattle.decimal.specs.declared.word.Found.{Found}
-use Rattle.decimal.specs.declared.word.Found.TheVariants.{At, Absent}
 use Rattle.decimal.specs.Word.{newline, word_at, on_found}
 use Rattle.decimal.specs.Number.{field_at, on_number}
 use Rattle.decimal.specs.Signed.{Signed, Whole, NoSigned, signed_field_at, on_signed, raised_of}
@@ -23,17 +19,17 @@ use Rattle.text.specs.LineRead.{most_fields, field_of, fields_of, code, codes, s
 
 -- ---- one field, and all of them
 
-abbrev value_code : (f : Field) → Seen (Value f) → Number
-value_code f (found x e) = ANumber (code f x) e
-value_code f other = NoNumber
+abbrev value_code : (f : Field) → Seen (Value f) → Option (ℕ × ℕ)
+value_code f (found x e) = Some ((code f x) , e)
+value_code f other = None
 
 code_seen : (f : Field) (s : List ℕ) (p : ℕ) → code_at f s p ≡ value_code f (value_at f s p)
 unfolding value_at
 code_seen number s p = go (field_at s p)
   where
-    go : (x : Number) → x ≡ value_code number (on_number x found other)
-    go (ANumber n e) = refl
-    go NoNumber = refl
+    go : (x : Option (ℕ × ℕ)) → x ≡ value_code number (on_number x found other)
+    go (Some (n , e)) = refl
+    go None = refl
 code_seen signed s p = go (signed_field_at s p)
   where
     go : (x : Signed) → raised_of x ≡ value_code signed (on_signed x found other)
@@ -42,16 +38,16 @@ code_seen signed s p = go (signed_field_at s p)
 
 -- behind the values w
 abbrev behind : List ℕ → (fs : List Field) → Seen (Values fs) → LineRead
-behind w fs (found x next) = line_read (At next) (w ++ codes fs x)
+behind w fs (found x next) = line_read (Some next) (w ++ codes fs x)
 behind w fs other = no_line
 
 codes_seen : (fs : List Field) (s : List ℕ) (p : ℕ) (w : List ℕ) → codes_from fs s p w ≡ behind w fs (values_from fs s p)
 unfolding codes_from values_from codes
 codes_seen [] s p w = go (word_at newline s p)
   where
-    go : (x : Found) → on_found x (λ next. line_read (At next) w) no_line ≡ behind w [] (on_found x (λ next. found tt next) other)
-    go (At next) = rw (append-nil w)
-    go Absent = refl
+    go : (x : Option ℕ) → on_found x (λ next. line_read (Some next) w) no_line ≡ behind w [] (on_found x (λ next. found tt next) other)
+    go (Some next) = rw (append-nil w)
+    go None = refl
 codes_seen (f ∷ fs) s p w = rw (code_seen f s p) (go (value_at f s p) (λ x e. codes_seen fs s e (w ++ (x ∷ []))))
   where
     more : (x : Value f) (y : Seen (Values fs))
@@ -72,11 +68,11 @@ behind_none fs other = refl
 
 module _ (w : List ℕ) (fs : List Field) (s : List ℕ) (at : ℕ) where
   -- the word, and what follows it
-  pub line_word : (p : ℕ) → word_at w s at ≡ At p → codes_from fs s p [] ≡ line_read_at w fs s at
+  pub line_word : (p : ℕ) → word_at w s at ≡ Some p → codes_from fs s p [] ≡ line_read_at w fs s at
   unfolding values_at line_read_at
   line_word p e = rw e (codes_seen fs s p [] ∙ behind_none fs (values_from fs s p))
 
-  pub line_no_word : word_at w s at ≡ Absent → no_line ≡ line_read_at w fs s at
+  pub line_no_word : word_at w s at ≡ None → no_line ≡ line_read_at w fs s at
   unfolding values_at line_read_at
   line_no_word e = rw e
 
@@ -123,23 +119,23 @@ module _ (letters s : List ℕ) (p : ℕ) (w : List ℕ) (i : ℕ) (h : i < leng
   letter_here : fields_of (drop i letters) ≡ field_of (get_or letters i 0) ∷ fields_of (drop (i + 1) letters)
   letter_here = rw (drop-cons letters i 0 h, add-one)
 
-  pub next_value : (x e : ℕ) → code_at (field_of (get_or letters i 0)) s p ≡ ANumber x e → i < length w
+  pub next_value : (x e : ℕ) → code_at (field_of (get_or letters i 0)) s p ≡ Some (x , e) → i < length w
       → rest letters s p w i ≡ rest letters s e (set w i x) (i + 1)
   unfolding codes_from
   next_value x e q l = rw (letter_here, q, add-one, take-suc-set w i x l)
 
-  pub no_value : code_at (field_of (get_or letters i 0)) s p ≡ NoNumber → rest letters s p w i ≡ no_line
+  pub no_value : code_at (field_of (get_or letters i 0)) s p ≡ None → rest letters s p w i ≡ no_line
   unfolding codes_from
   no_value q = rw (letter_here, q)
 
 -- all are read
 module _ (letters s : List ℕ) (p : ℕ) (w : List ℕ) (i : ℕ) (h : length letters ≤ i) where
-  pub line_ends : (e : ℕ) → word_at newline s p ≡ At e → length w ≡ most_fields → Clean w i
-      → rest letters s p w i ≡ record { next = At e; values = w }
+  pub line_ends : (e : ℕ) → word_at newline s p ≡ Some e → length w ≡ most_fields → Clean w i
+      → rest letters s p w i ≡ record { next = Some e; values = w }
   unfolding codes_from
   line_ends e q l c = rw (drop_of_length-le letters h, q, places_kept most_fields i w l c)
 
-  pub line_goes_on : word_at newline s p ≡ Absent → rest letters s p w i ≡ no_line
+  pub line_goes_on : word_at newline s p ≡ None → rest letters s p w i ≡ no_line
   unfolding codes_from
   line_goes_on q = rw (drop_of_length-le letters h, q)
 
@@ -151,27 +147,27 @@ pub record SeenLine (word : List ℕ) (fs : List Field) (s : List ℕ) (at : ℕ
   pub fits : ValuesFit fs vs
   pub values : r.values ≡ slots_of most_fields (codes fs vs)
 
-abbrev next_in : Found → ℕ
-next_in (At n) = n
-next_in Absent = 0
+abbrev next_in : Option ℕ → ℕ
+next_in (Some n) = n
+next_in None = 0
 
 module _ (word : List ℕ) (fs : List Field) (s : List ℕ) (at : ℕ) {r : LineRead} (e : r ≡ line_read_at word fs s at) where
-  pub line_seen : {next : ℕ} → r.next ≡ At next → SeenLine word fs s at r next
+  pub line_seen : {next : ℕ} → r.next ≡ Some next → SeenLine word fs s at r next
   unfolding line_read_at seen seen_kind
   line_seen {next} q = go (values_at word fs s at) refl (sym (ap (λ (l : LineRead). l.next) e) ∙ q) (ap (λ (l : LineRead). l.values) e)
     where
-      go : (y : Seen (Values fs)) → values_at word fs s at ≡ y → (line_of fs y).next ≡ At next → r.values ≡ (line_of fs y).values
+      go : (y : Seen (Values fs)) → values_at word fs s at ≡ y → (line_of fs y).next ≡ Some next → r.values ≡ (line_of fs y).values
           → SeenLine word fs s at r next
       go (found x n) h p v =
           let seen_here : seen (line (named word fs)) s at ≡ found x next = h ∙ ap (λ (i : ℕ). found x i) (ap next_in p) in
           record { vs = x; is = seen_here; fits = seen_fits word fs s at seen_here; values = v }
       go other h p v = let z : ◌≡◌ {A = ℕ} 0 1 = cc in absurd (omega arith)
 
-  pub line_none : r.next ≡ Absent → seen (line (named word fs)) s at ≡ other
+  pub line_none : r.next ≡ None → seen (line (named word fs)) s at ≡ other
   unfolding line_read_at seen seen_kind
   line_none q = go (values_at word fs s at) refl (sym (ap (λ (l : LineRead). l.next) e) ∙ q)
     where
-      go : (y : Seen (Values fs)) → values_at word fs s at ≡ y → (line_of fs y).next ≡ Absent → values_at word fs s at ≡ other
+      go : (y : Seen (Values fs)) → values_at word fs s at ≡ y → (line_of fs y).next ≡ None → values_at word fs s at ≡ other
       go (found x n) h p = let z : ◌≡◌ {A = ℕ} 0 1 = cc in absurd (omega arith)
       go other h p = h
 

@@ -1,13 +1,12 @@
 -- The turns of the loop over a run of lines of any kind. Laws.
 use Prim.Native.Nat.{ℕ, suc, ◌+◌, ◌≤◌, ◌<◌}
-use Rattle.std.specs.Prelude.{◌≡◌, Bool, ltb, get_or}
+use Rattle.std.specs.Prelude.{◌≡◌, Bool, ltb, get_or, None, Some}
 use Rattle.std.proofs.Math.Path.{refl, ap}
 use Rattle.std.proofs.Common.{sym, ◌∙◌, length-append, ltb-true, ltb-false, lt-ltb, le-ltb}
 use Rattle.std.proofs.Math.Bool.{true, false, cond}
 use mathlib.Core.List.{List, [], ◌∷◌, ◌++◌}
 use native.Mathlib.Omega.{arith}
 use Rattle.std.proofs.Math.ListN.{length}
-use Rattle.decimal.specs.declared.word.Found.TheVariants.{At, Absent}
 use Rattle.grammar.specs.LineValues.{Field, Values}
 use Rattle.grammar.specs.Form.{named, line}
 use Rattle.grammar.specs.TextReading.{many_at}
@@ -71,7 +70,7 @@ module _ {word : List ℕ} {fs : List Field} {field bound : ℕ} {s : List ℕ} 
   run_most = (omega (arith, u.counted, u.all_below, below_most fs field bound u.xs), omega (arith, u.counted, u.upto.fit))
 
   module _ {l : LineRead} (e : l ≡ line_read_at word fs s i) where
-    module _ {next : ℕ} (q : l.next ≡ At next) where
+    module _ {next : ℕ} (q : l.next ≡ Some next) where
       x : SeenLine word fs s i l next
       x = line_seen word fs s i e q
 
@@ -92,7 +91,7 @@ module _ {word : List ℕ} {fs : List Field} {field bound : ℕ} {s : List ℕ} 
           }
 
     -- the line at i is none of the kind
-    pub run_done : l.next ≡ Absent → ◌≡◌ {A = Run} (record { count = count; below = below; next = i }) (run_at word fs field bound s at)
+    pub run_done : l.next ≡ None → ◌≡◌ {A = Run} (record { count = count; below = below; next = i }) (run_at word fs field bound s at)
     unfolding run_at
     run_done q =
         let d = read_up_done (line_none word fs s i e q) u.upto in

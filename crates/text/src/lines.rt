@@ -1,31 +1,22 @@
 // A line of a keyword and its fields at an offset of a text, for every kind of line.
 ghost use Rattle.std.specs.Prelude.{◌≡◌, [], ◌≤◌, length};
-ghost use Rattle.text.specs.LineRead.{most_fields, field_of, fields_of, code_at, codes_from, no_line, line_read_at};
+ghost use Rattle.text.specs.LineRead.{most_fields, field_of, fields_of, code_at, codes_from, line_read_at};
 
-use decimal::{Found, Number, field, past, signed_field};
+use decimal::{field, past, signed_field};
 
 // The most fields of a line.
 pub const MOST_FIELDS: usize = 8;
 
-// A line of the kind that was asked for: the offset of the line behind it, and the values of its fields, with 0 behind them. Or any other
-// line: no offset, and zeros. A signed value is kept 2^31 higher.
+// A line of the kind that was asked for: the offset of the line behind it, and the values of its fields, with 0 behind them. A signed value is
+// kept 2^31 higher.
 #[derive(Clone, Copy)]
 pub struct LineRead {
-    pub next: Found,
+    pub next: usize,
     pub values: [u32; MOST_FIELDS],
 }
 
-fn no_line() -> LineRead
-    ensures { result ≡ no_line }
-{
-    LineRead {
-        next: Found::Absent,
-        values: [0; MOST_FIELDS],
-    }
-}
-
 // The value of a field at `at`: a signed one where its letter is `s`.
-fn value(text: &[u8], at: usize, letter: u8) -> Number
+fn value(text: &[u8], at: usize, letter: u8) -> Option<(u32, usize)>
     ensures { result ≡ code_at (field_of letter) text.now at }
 {
     if letter == b's' {
@@ -35,37 +26,25 @@ fn value(text: &[u8], at: usize, letter: u8) -> Number
 }
 
 // What follows the keyword: a field for each letter, and LF.
-fn fields_from(text: &[u8], at: usize, letters: &[u8]) -> LineRead
+fn fields_from(text: &[u8], at: usize, letters: &[u8]) -> Option<LineRead>
     requires { length letters.now ≤ most_fields }
     ensures { result ≡ codes_from (fields_of letters.now) text.now at [] }
 {
     let mut values = [0u32; MOST_FIELDS];
-    let mut i: usize = 0;
     let mut p = at;
-    while i < letters.len() {
-        let Number::Value(x, e) = value(text, p, letters[i]) else {
-            return no_line();
-        };
+    for (i, letter) in letters.iter().enumerate() {
+        let (x, e) = value(text, p, *letter)?;
         values[i] = x;
         p = e;
-        i += 1;
     }
-    let Found::At(next) = past(text, p, b"\n") else {
-        return no_line();
-    };
-    LineRead {
-        next: Found::At(next),
-        values,
-    }
+    let next = past(text, p, b"\n")?;
+    Some(LineRead { next, values })
 }
 
 // The line at `at`, where one of the word is asked for, with a field for each letter: `n` for a number, `s` for a signed one.
-pub(crate) fn parse_line(text: &[u8], at: usize, word: &[u8], letters: &[u8]) -> LineRead
+pub(crate) fn parse_line(text: &[u8], at: usize, word: &[u8], letters: &[u8]) -> Option<LineRead>
     requires { length letters.now ≤ most_fields }
     ensures { result ≡ line_read_at word.now (fields_of letters.now) text.now at }
 {
-    let Found::At(p) = past(text, at, word) else {
-        return no_line();
-    };
-    fields_from(text, p, letters)
+    fields_from(text, past(text, at, word)?, letters)
 }

@@ -15,7 +15,7 @@ pub struct Reader<'a> {
 
 // The line that the reader stands at, where one of the word is asked for, with a field for each letter: `n` for a number, `s` for a signed
 // one. For the crates of this repository, which ask for at most eight fields: hence the `requires`.
-pub fn line<'a, 'b, 'c>(r: Reader<'a>, word: &'b [u8], letters: &'c [u8]) -> LineRead
+pub fn line<'a, 'b, 'c>(r: Reader<'a>, word: &'b [u8], letters: &'c [u8]) -> Option<LineRead>
     requires { length letters.now ≤ most_fields }
     ensures { result ≡ line_read_at word.now (fields_of letters.now) r.entry.text.now r.entry.at }
 {
@@ -23,7 +23,7 @@ pub fn line<'a, 'b, 'c>(r: Reader<'a>, word: &'b [u8], letters: &'c [u8]) -> Lin
 }
 
 // The line at `at` of a text: the reader is made here, so a caller needs none.
-pub fn line_at(text: &[u8], at: usize, word: &[u8], letters: &[u8]) -> LineRead
+pub fn line_at(text: &[u8], at: usize, word: &[u8], letters: &[u8]) -> Option<LineRead>
     requires { length letters.now ≤ most_fields }
     ensures { result ≡ line_read_at word.now (fields_of letters.now) text.now at }
 {

@@ -5,7 +5,6 @@ ghost use Rattle.text.specs.LineRead.{most_fields, fields_of};
 ghost use Rattle.text.specs.Run.{below_more, run_at};
 
 use crate::lines::parse_line;
-use decimal::Found;
 
 // How many lines there are, how many of them come before the first whose value of one field is not below a bound, and the offset of the first
 // line that is none of the kind.
@@ -44,18 +43,15 @@ pub(crate) fn parse_run(
     let mut below: u32 = 0;
     let mut i = at;
     loop {
-        let line = parse_line(text, i, word, letters);
-        let behind = line.next;
-        let Found::At(next) = behind else {
+        let Some(line) = parse_line(text, i, word, letters) else {
             return Run {
                 count,
                 below,
                 next: i,
             };
         };
-        let values = line.values;
-        below = one_more(count, below, values[field], bound);
+        below = one_more(count, below, line.values[field], bound);
         count += 1;
-        i = next;
+        i = line.next;
     }
 }

@@ -1,5 +1,5 @@
 -- The weights program's text by its contents. Laws.
-use Rattle.std.specs.Prelude.{ℕ, suc, ◌≤◌, ◌≡◌, List, [], ◌++◌, ℤ, pos, negsuc, length}
+use Rattle.std.specs.Prelude.{ℕ, suc, ◌≤◌, ◌≡◌, List, [], ◌++◌, ℤ, pos, negsuc, length, Ok}
 use Rattle.std.proofs.Common.{ap, arith, length-append}
 use Rattle.decimal.specs.Decimal.{signed_decimal}
 use Rattle.decimal.specs.DecimalLaws.{decimal_short_64}
@@ -13,8 +13,7 @@ use Rattle.grammar.specs.TextReading.{read_text}
 use Rattle.grammar.specs.Read.{Reading}
 use Rattle.grammar.specs.Read.{ReadingIs, too_long_lem, wrong, right}
 use Rattle.grammar.proofs.EveryGrammar.{reading_is}
-use Rattle.weights_report.specs.declared.shifts.ShiftText.{ShiftText}
-use Rattle.weights_report.specs.ShiftText.{shift_word, shift_grammar, read_shift, shift_by, shift_text}
+use Rattle.weights_report.specs.ShiftText.{shift_word, shift_grammar, shift_by, shift_text}
 use Rattle.weights_report.specs.ShiftTextLaws.{clear_shift}
 use Rattle.weights_claims.specs.WeightsTexts.{ShiftTextIs}
 
@@ -35,11 +34,11 @@ text_short {s} {x} t =
     omega (arith, e, length-append (shift_word ++ (signed_field x ++ newline)) [], length-append shift_word (signed_field x ++ newline), length-append (signed_field x) newline, signed_short x f)
 
 -- A text is accepted exactly where it is the line of a shift.
-pub shift_exactly : (s : List ℕ) (x : ℤ) → shift_text s ≡ read_shift x → ShiftTextIs s x
+pub shift_exactly : (s : List ℕ) (x : ℤ) → shift_text s ≡ Ok x → ShiftTextIs s x
 unfolding shift_text shift_by
 shift_exactly s x e = go (read_text shift_grammar s) (reading_is shift_grammar clear_shift s) e
   where
-    go : (r : Reading (Contents shift_grammar)) → ReadingIs shift_grammar s r → shift_by r ≡ read_shift x → ShiftTextIs s x
-    go r (too_long_lem l) e = let z : ◌≡◌ {A = ℕ} 17 0 = ap (λ (t : ShiftText). t.refusal.number) e in absurd (omega arith)
-    go r (wrong l st) e = let z : ◌≡◌ {A = ℕ} 16 0 = ap (λ (t : ShiftText). t.refusal.number) e in absurd (omega arith)
-    go r (right {c} l t) e = let same : c.0.0 ≡ x = ap (λ (t : ShiftText). t.shift) e in rw (← same) (record { text = t })
+    go : (r : Reading (Contents shift_grammar)) → ReadingIs shift_grammar s r → shift_by r ≡ Ok x → ShiftTextIs s x
+    go r (too_long_lem l) e = absurd (let z : ◌≡◌ {A = ℕ} 0 1 = cc in omega arith)
+    go r (wrong l st) e = absurd (let z : ◌≡◌ {A = ℕ} 0 1 = cc in omega arith)
+    go r (right {c} l t) e = let same : c.0.0 ≡ x = cc in rw (← same) (record { text = t })

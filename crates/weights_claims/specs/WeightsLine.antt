@@ -3,7 +3,7 @@
 use Rattle.std.specs.Prelude.{ℕ, ◌≤◌, ◌≡◌, List, ◌++◌, length}
 use Rattle.std.proofs.Common.{arith}
 use Rattle.rules.specs.Bounds.{zone_count}
-use Rattle.rules.specs.Refusal.{bad_line}
+use Rattle.rules.specs.Refusal.{number_of, bad_line}
 use Rattle.grammar.specs.Size.{max_text}
 use Rattle.write.specs.Refused.{refused_line}
 use Rattle.write.specs.Printed.{printed_bytes}
@@ -14,10 +14,10 @@ use Rattle.weights_claims.specs.WeightsLineLaws.{weights_counted as weights_coun
 module _ (ws rest : List ℕ) (other : length ws ≡ zone_count → ⊥) where
   -- The text begins with a weights line of some other number of weights: it is refused by 16, and the place is line 1.
   pub weights_counted : length (weights_bytes ws ++ rest) ≤ max_text
-      → printed_bytes (table_printed (weights_bytes ws ++ rest)) ≡ refused_line (bad_line 1).number 1
+      → printed_bytes (table_printed (weights_bytes ws ++ rest)) ≡ refused_line (number_of (bad_line 1)) 1
   weights_counted = weights_counted_proved ws rest other
 
 -- So a text with seven weights is.
 pub seven_weights : (ws rest : List ℕ) → length ws ≡ 7 → length (weights_bytes ws ++ rest) ≤ max_text
-    → printed_bytes (table_printed (weights_bytes ws ++ rest)) ≡ refused_line (bad_line 1).number 1
+    → printed_bytes (table_printed (weights_bytes ws ++ rest)) ≡ refused_line (number_of (bad_line 1)) 1
 seven_weights ws rest seven = weights_counted ws rest (λ e. omega arith)

@@ -5,7 +5,7 @@ use Rattle.std.proofs.Math.Path.{ap}
 use mathlib.Core.List.{List, ◌∷◌, ◌++◌, append_assoc}
 use Rattle.std.proofs.Math.ListN.{length}
 use Rattle.rules.specs.Bounds.{zone_count}
-use Rattle.rules.specs.Refusal.{bad_line}
+use Rattle.rules.specs.Refusal.{number_of, bad_line}
 use Rattle.decimal.specs.Word.{newline}
 use Rattle.decimal.specs.Fields.{fields}
 use Rattle.grammar.specs.NumberFields.{numbers_in}
@@ -15,7 +15,6 @@ use Rattle.grammar.specs.Size.{max_text}
 use Rattle.grammar.specs.Blocks.{Begins, here}
 use Rattle.grammar.proofs.TextStopsLaws.{stops_by}
 use Rattle.table_text.specs.TableGrammar.{weights_word, weights_line, table_grammar}
-use Rattle.table_text.specs.ReadTable.{refused_table}
 use Rattle.table_text.specs.TableTextLaws.{clear_table}
 use Rattle.write.specs.Refused.{refused_line}
 use Rattle.write.specs.Printed.{printed_bytes}
@@ -43,6 +42,6 @@ module _ (ws rest : List ℕ) (other : length ws ≡ zone_count → ⊥) where
 
   -- The text begins with a weights line of some other number of weights: it is refused by 16, and the place is line 1.
   pub weights_counted : length (weights_bytes ws ++ rest) ≤ max_text
-      → printed_bytes (table_printed (weights_bytes ws ++ rest)) ≡ refused_line (bad_line 1).number 1
-  unfolding table_printed printed_bytes refused_table
+      → printed_bytes (table_printed (weights_bytes ws ++ rest)) ≡ refused_line (number_of (bad_line 1)) 1
+  unfolding table_printed printed_bytes
   weights_counted short = rw (table_stopped short (stops_by table_grammar clear_table.0 (here none_begins)))

@@ -1,12 +1,11 @@
 -- What the weights program prints, case by case. Laws.
-use Rattle.std.specs.Prelude.{ℕ, ◌+◌, ◌≤◌, ◌≡◌, refl, Bool, true, false, cond, List, [], ◌∷◌, ◌++◌, leb, ℤ, nat_abs, length, get_or}
+use Rattle.std.specs.Prelude.{ℕ, ◌+◌, ◌≤◌, ◌≡◌, refl, Bool, true, false, cond, List, [], ◌∷◌, ◌++◌, leb, ℤ, nat_abs, length, get_or, Err, Ok}
 use Rattle.std.proofs.Common.{sym, ap, ◌∙◌, append_assoc, arith, leb-true, leb-false}
 use Rattle.rules.specs.declared.Rule.{Rule}
 use Rattle.rules.specs.declared.weights.ZoneWeights.{ZoneWeights}
 use Rattle.rules.specs.Bounds.{zone_count}
-use Rattle.rules.specs.Refusal.{bad_line, too_long, bad_shift}
+use Rattle.rules.specs.Refusal.{number_of, bad_line, too_long, bad_shift}
 use Rattle.rules.specs.Weights.{weight_list}
-use Rattle.shift.specs.declared.ShiftAnswer.TheVariants.{Accepted, Refused}
 use Rattle.shift.specs.Shift.{max_shift, weights_of, shift_of}
 use Rattle.shift.specs.Shifted.{Shifted, Whole}
 use Rattle.shift.proofs.ShiftedWeights.{shift_accepted, weights_shifted}
@@ -48,13 +47,13 @@ weights_program s = go (read_text shift_grammar s) (reading_is shift_grammar cle
     by_shift x is = by_size (leb (nat_abs x) max_shift) refl
       where
         by_size : (b : Bool) → leb (nat_abs x) max_shift ≡ b
-            → WeightsProgram s (printed_bytes (weights_by (cond b (Accepted (weights_of x)) (Refused bad_shift))))
+            → WeightsProgram s (printed_bytes (weights_by (cond b (Ok (weights_of x)) (Err bad_shift))))
         by_size true e = let h = leb-true (nat_abs x) max_shift e in prints x is h refl (in_bounds_shifted x h)
-        by_size false e = refuses bad_shift.number 0 refl (bad_shift_lem x is (leb-false (nat_abs x) max_shift e))
+        by_size false e = refuses (number_of bad_shift) 0 refl (bad_shift_lem x is (leb-false (nat_abs x) max_shift e))
 
     go : (r : Reading (Contents shift_grammar)) → ReadingIs shift_grammar s r → WeightsProgram s (printed_bytes (weights_by (weights_for (shift_by r))))
-    go r (reading-too-long l) = refuses too_long.number 0 refl (too_long_lem l)
-    go r (wrong {n} l st) = refuses (bad_line n).number n refl (bad_line_lem n l st)
+    go r (reading-too-long l) = refuses (number_of too_long) 0 refl (too_long_lem l)
+    go r (wrong {n} l st) = refuses (number_of (bad_line n)) n refl (bad_line_lem n l st)
     go r (right {c} l t) = by_shift c.0.0 (record { text = t })
 
 -- The other way round: a text that is the line of a shift in bounds is not refused.

@@ -1,7 +1,7 @@
 -- CLAIM: the weights program's line, with rules and a horizon behind it, is never refused by 8 by the table program.
 use Rattle.std.specs.Prelude.{ℕ, ◌≤◌, ◌≡◌, List, [], ◌∷◌, ◌++◌, ℤ, nat_abs, length}
 use Rattle.rules.specs.declared.Rule.{Rule}
-use Rattle.rules.specs.Refusal.{bad_weights}
+use Rattle.rules.specs.Refusal.{number_of, bad_weights}
 use Rattle.shift.specs.Shift.{max_shift}
 use Rattle.grammar.specs.Grammar.{one, many, TextIs}
 use Rattle.grammar.specs.Size.{max_text}
@@ -20,5 +20,5 @@ module _ {s : List ℕ} {x : ℤ} (is : ShiftTextIs s x) (b : nat_abs x ≤ max_
   abbrev pub text : List ℕ
   text = printed_bytes (weights_printed s) ++ rest
 
-  pub weights_taken : length text ≤ max_text → (place : ℕ) → printed_bytes (table_printed text) ≡ refused_line bad_weights.number place → ⊥
+  pub weights_taken : length text ≤ max_text → (place : ℕ) → printed_bytes (table_printed text) ≡ refused_line (number_of bad_weights) place → ⊥
   weights_taken = weights_taken_proved is b rs h t

@@ -1,9 +1,8 @@
 -- The weights program's line before rules and a horizon. Laws.
-use Rattle.std.specs.Prelude.{ℕ, ◌≤◌, ◌≡◌, List, [], ◌∷◌, ◌++◌, ℤ, nat_abs, length}
+use Rattle.std.specs.Prelude.{ℕ, ◌≤◌, ◌≡◌, List, [], ◌∷◌, ◌++◌, ℤ, nat_abs, length, Err}
 use Rattle.std.proofs.Common.{sym, ◌∙◌, arith}
 use Rattle.rules.specs.declared.Rule.{Rule}
-use Rattle.rules.specs.declared.Checked.TheVariants.{Refused}
-use Rattle.rules.specs.Refusal.{bad_weights}
+use Rattle.rules.specs.Refusal.{number_of, bad_weights}
 use Rattle.rules.specs.Weights.{weight_list}
 use Rattle.table.specs.Table.{chain_check}
 use Rattle.shift.specs.Shift.{max_shift, weights_of}
@@ -32,17 +31,17 @@ module _ {s : List ℕ} {x : ℤ} (is : ShiftTextIs s x) (b : nat_abs x ≤ max_
   abbrev text : List ℕ
   text = printed_bytes (weights_printed s) ++ rest
 
-  pub weights_taken : length text ≤ max_text → (place : ℕ) → printed_bytes (table_printed text) ≡ refused_line bad_weights.number place → ⊥
+  pub weights_taken : length text ≤ max_text → (place : ℕ) → printed_bytes (table_printed text) ≡ refused_line (number_of bad_weights) place → ⊥
   weights_taken short place e = go (table_program text)
     where
-      by_reason : {n p : ℕ} → TableRefusal text n p → n ≡ bad_weights.number → ⊥
+      by_reason : {n p : ℕ} → TableRefusal text n p → n ≡ (number_of bad_weights) → ⊥
       by_reason (too_long_lem l) q = omega arith
       by_reason (bad_line_lem place l st) q = omega arith
       by_reason (bad_table w rs' h' y is' c o) q =
           let w-is : w ≡ weight_list (weights_of x) = (table_text_once is' (weights_then_rules is b rs h t short)).0 in
-          let c' : chain_check (rule_list_of rs') (weight_list (weights_of x)) (report_horizon h') ≡ Refused y = rw (← w-is) c in
+          let c' : chain_check (rule_list_of rs') (weight_list (weights_of x)) (report_horizon h') ≡ Err y = rw (← w-is) c in
           chain_never_eight x (weights_of x) (shift_accepted x b) (rule_list_of rs') (report_horizon h') y c' q
 
       go : TableProgram text (printed_bytes (table_printed text)) → ⊥
-      go (refuses n p q r) = by_reason r (refused_number n p bad_weights.number place (sym q ∙ e))
-      go (prints w rs' h' f is' m ok q u) = table_not_refused h' f bad_weights.number place (sym q ∙ e)
+      go (refuses n p q r) = by_reason r (refused_number n p (number_of bad_weights) place (sym q ∙ e))
+      go (prints w rs' h' f is' m ok q u) = table_not_refused h' f (number_of bad_weights) place (sym q ∙ e)

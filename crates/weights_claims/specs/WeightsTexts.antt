@@ -1,6 +1,6 @@
 -- TO BELIEVE: the weights program: what it is for bytes to be its text, and what is claimed to be printed. Definitions.
 use Rattle.std.specs.Prelude.{ℕ, ◌≤◌, ◌<◌, ◌≡◌, List, ℤ, nat_abs, length, ◌++◌, [], ◌∷◌}
-use Rattle.rules.specs.Refusal.{bad_line, too_long, bad_shift}
+use Rattle.rules.specs.Refusal.{number_of, bad_line, too_long, bad_shift}
 use Rattle.grammar.specs.Grammar.{TextIs, Stops}
 use Rattle.grammar.specs.Size.{max_text}
 use Rattle.shift.specs.Shift.{max_shift, weights_of}
@@ -31,9 +31,9 @@ pub record ShiftTextIs (s : List ℕ) (x : ℤ) : Type 0 where
 
 -- why a text is refused, with the number and the place
 pub data WeightsRefusal (s : List ℕ) : ℕ → ℕ → Type 0 where
-  too_long_lem : max_text < length s → WeightsRefusal s too_long.number 0
-  bad_line_lem : (place : ℕ) → length s ≤ max_text → Stops shift_grammar s place → WeightsRefusal s (bad_line place).number place
-  bad_shift_lem : (x : ℤ) → ShiftTextIs s x → max_shift < nat_abs x → WeightsRefusal s bad_shift.number 0
+  too_long_lem : max_text < length s → WeightsRefusal s (number_of too_long) 0
+  bad_line_lem : (place : ℕ) → length s ≤ max_text → Stops shift_grammar s place → WeightsRefusal s (number_of (bad_line place)) place
+  bad_shift_lem : (x : ℤ) → ShiftTextIs s x → max_shift < nat_abs x → WeightsRefusal s (number_of bad_shift) 0
 
 -- what the weights program prints for the text s
 pub data WeightsProgram (s : List ℕ) (printed : List ℕ) : Type 0 where
@@ -53,4 +53,4 @@ weights_bytes ws = weights_word ++ fields ws ++ newline
 
 -- the numbers that a text is refused by
 abbrev pub weights_numbers : List ℕ
-weights_numbers = too_long.number ∷ (bad_line 0).number ∷ bad_shift.number ∷ []
+weights_numbers = number_of too_long ∷ number_of (bad_line 0) ∷ number_of bad_shift ∷ []

@@ -1,11 +1,10 @@
 -- The cases of the weights program's text, each as its return meets it. Laws.
-use Rattle.std.specs.Prelude.{ℕ, ◌≤◌, ◌<◌, ◌≡◌, refl, ℤ, length, get_or}
+use Rattle.std.specs.Prelude.{ℕ, ◌≤◌, ◌<◌, ◌≡◌, refl, ℤ, length, get_or, None, Some}
 use Rattle.std.proofs.Common.{sym, ◌∙◌, arith, le-leb}
 use Rattle.std.proofs.Math.Path.{ap}
 use mathlib.Core.List.{List, [], ◌∷◌}
 use Rattle.std.proofs.lemmas.Bool.{lt-leb}
 use Rattle.rules.specs.Refusal.{bad_line, too_long}
-use Rattle.decimal.specs.declared.word.Found.TheVariants.{At, Absent}
 use Rattle.decimal.specs.Signed.{lowered}
 use Rattle.decimal.specs.SignedLaws.{lowered_raised}
 use Rattle.grammar.specs.LineValues.{signed, ValuesFit}
@@ -37,14 +36,14 @@ too_long_lem s h = of_reading s (cut s h)
     cut s h = rw (lt-leb (length s) max_text h)
 
 module _ (s : List ℕ) (short : length s ≤ max_text) {f : LineRead} (fe : f ≡ line_read_at shift_word (signed ∷ []) s 0) where
-  pub other_first : f.next ≡ Absent → refused_shift (bad_line 1) ≡ shift_text s
+  pub other_first : f.next ≡ None → refused_shift (bad_line 1) ≡ shift_text s
   unfolding shift_by read_text
   other_first q =
       let b : read_text shift_grammar s ≡ stopped 1 =
       rw (le-leb (length s) max_text short) (read_other (line shift_line) [] s 0 1 (line_none shift_word (signed ∷ []) s 0 fe q)) in
       of_reading s b
 
-  module _ {end : ℕ} (q : f.next ≡ At end) where
+  module _ {end : ℕ} (q : f.next ≡ Some end) where
     x : SeenLine shift_word (signed ∷ []) s 0 f end
     x = line_seen shift_word (signed ∷ []) s 0 fe q
 

@@ -5,7 +5,7 @@ mod shifts;
 mod weight_line;
 mod weights;
 
-pub use shifts::{ShiftText, shift_text};
+pub use shifts::shift_text;
 pub use weight_line::{WEIGHTS_ROOM, put_weights};
 pub use weights::{weights_output, weights_report};
 

@@ -5,33 +5,22 @@ ghost use Rattle.weights_report.specs.WeightsReport.{text_weights, weights_print
 
 use crate::WEIGHTS_SIZE;
 use crate::shifts::shift_text;
-use shift::ShiftAnswer;
-use write::{ReportAnswer, put_answer};
+use rules::{Refusal, ZoneWeights};
+use write::put_answer;
 
 // The weights of the shift that a text gives, or the first refusal: 17; 16; 18.
-fn text_weights(text: &[u8]) -> ShiftAnswer
+fn text_weights(text: &[u8]) -> Result<ZoneWeights, Refusal>
     ensures { result ≡ text_weights text.now }
 {
-    let read = shift_text(text);
-    let refusal = read.refusal;
-    if refusal.number != 0 {
-        return ShiftAnswer::Refused(refusal);
-    }
-    shift::shift_weights(read.shift)
+    shift::shift_weights(shift_text(text)?)
 }
 
 // The weights program's line for a text, in the lent buffer; or the refusal, with the buffer as it was: 17; 16; 18.
-pub fn weights_report(text: &[u8], out: &mut [u8; WEIGHTS_SIZE]) -> ReportAnswer
+pub fn weights_report(text: &[u8], out: &mut [u8; WEIGHTS_SIZE]) -> Result<usize, Refusal>
     ensures { report result out.new ≡ report_of (weights_printed text.now) out.old }
 {
-    let answer = text_weights(text);
-    match answer {
-        ShiftAnswer::Refused(r) => ReportAnswer::Refused(r),
-        ShiftAnswer::Accepted(w) => {
-            let n = crate::put_weights(out, 0, w);
-            ReportAnswer::Written(n)
-        }
-    }
+    let weights = text_weights(text)?;
+    Ok(crate::put_weights(out, 0, weights))
 }
 
 // The weights program's output, from the buffer's start; what is behind it is kept.

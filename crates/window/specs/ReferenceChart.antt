@@ -2,7 +2,7 @@
 use Rattle.std.specs.Prelude.{ℕ, ◌+◌, Bool, true, false, cond, List, [], ◌∷◌, map, leb, ltb, eqb, length, take}
 use Rattle.rules.specs.declared.Rule.{Rule}
 use Rattle.rules.specs.Bounds.{zone_count, max_number}
-use Rattle.rules.specs.Refusal.{bad_zone, bad_count}
+use Rattle.rules.specs.Refusal.{number_of, bad_zone, bad_count}
 use Rattle.rules.specs.ZoneSet.{in_zone_set}
 use Rattle.rules.specs.Mask.{mask_of}
 
@@ -46,8 +46,8 @@ chart_by mask row = cond (eqb mask 0) (charted (quiet (length row)) row) (charte
 unfoldable pub chart_step : List Rule → List ℕ → ℕ → Charted
 chart_step rs row z =
     cond (ltb z zone_count)
-    (cond (ltb (length row) max_number) (chart_by (row_mask rs (z ∷ row)) (z ∷ row)) (charted (refused bad_count.number) row))
-    (charted (refused bad_zone.number) row)
+    (cond (ltb (length row) max_number) (chart_by (row_mask rs (z ∷ row)) (z ∷ row)) (charted (refused (number_of bad_count)) row))
+    (charted (refused (number_of bad_zone)) row)
 
 -- the answers to a list of calls, from a row
 unfoldable pub chart_answers : List Rule → List ℕ → List ℕ → List Answer

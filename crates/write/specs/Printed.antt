@@ -1,10 +1,9 @@
 -- TO BELIEVE: what a program prints, and what a report leaves in the lent buffer. Definitions.
-use Rattle.std.specs.Prelude.{ℕ, ◌≤◌, ◌≡◌, List, ◌++◌, length, take, drop}
+use Rattle.std.specs.Prelude.{ℕ, ◌≤◌, ◌≡◌, List, ◌++◌, length, take, drop, Err, Ok, Result}
+use Rattle.rules.specs.Check.{Checked}
+use Rattle.rules.specs.Refusal.{number_of, place_of}
 use Rattle.rules.specs.declared.refusal.Refusal.{Refusal}
-use Rattle.rules.specs.declared.Checked.{Checked}
-use Rattle.rules.specs.declared.Checked.TheVariants.{Accepted, Refused}
 use Rattle.write.specs.Refused.{refused_line}
-use Rattle.write.specs.declared.ReportAnswer.{ReportAnswer}
 
 -- the bytes of an accepted text's lines, or the refusal
 pub data Printed : Type 0 where
@@ -13,13 +12,13 @@ pub data Printed : Type 0 where
 
 -- the lines of a text that is accepted, or its refusal
 abbrev pub printed_by : Checked → List ℕ → Printed
-printed_by Accepted bytes = lines bytes
-printed_by (Refused x) bytes = refused_by x
+printed_by (Ok tt) bytes = lines bytes
+printed_by (Err x) bytes = refused_by x
 
 -- what a program writes to standard output: the lines, or the one line of the refusal
 unfoldable pub printed_bytes : Printed → List ℕ
 printed_bytes (lines bytes) = bytes
-printed_bytes (refused_by x) = refused_line x.number x.place
+printed_bytes (refused_by x) = refused_line (number_of x) (place_of x)
 
 -- the buffer's first n bytes are exactly these, and the rest keeps its contents
 pub record OutputIs (before after : List ℕ) (n : ℕ) (bytes : List ℕ) : Type 0 where
@@ -31,13 +30,13 @@ pub record OutputIs (before after : List ℕ) (n : ℕ) (bytes : List ℕ) : Typ
 
 -- the answer, and the buffer as it then is
 pub record Report : Type 0 where
-  pub answer : ReportAnswer
+  pub answer : Result ℕ Refusal
   pub buffer : List ℕ
 
-abbrev pub report : ReportAnswer → List ℕ → Report
+abbrev pub report : Result ℕ Refusal → List ℕ → Report
 report a out = record { answer = a; buffer = out }
 
 -- the bytes stand in front, the rest of the buffer keeps its contents; a refusal leaves all of it as it was
 abbrev pub report_of : Printed → List ℕ → Report
-report_of (lines bytes) out = report (ReportAnswer.Written (length bytes)) (bytes ++ drop (length bytes) out)
-report_of (refused_by x) out = report (ReportAnswer.Refused x) out
+report_of (lines bytes) out = report (Ok (length bytes)) (bytes ++ drop (length bytes) out)
+report_of (refused_by x) out = report (Err x) out

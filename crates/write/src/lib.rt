@@ -1,4 +1,4 @@
-// Writing into a lent buffer at an offset: bytes, numbers in decimal, fields, the line of a refusal; and what a report answers.
+// Writing into a lent buffer at an offset: bytes, numbers in decimal, fields, the line of a refusal.
 // For the crates of this repository, which see to the room: hence each `requires`.
 #![tactic(auto)]
 
@@ -9,7 +9,6 @@ mod refused;
 pub use field::{put_field, put_named};
 pub use put::{put_byte, put_bytes, put_number};
 pub use refused::{put_answer, put_refused};
-use rules::Refusal;
 
 // The most digits of a number of 64 bits, and of one of 32 bits.
 pub const NUMBER_ROOM: usize = 20;
@@ -20,11 +19,3 @@ pub const SHORT_ROOM: usize = 10;
 pub const FIELD_ROOM: usize = 1 + NUMBER_ROOM;
 
 pub const SHORT_FIELD: usize = 1 + SHORT_ROOM;
-
-// What a report answers: the bytes that it wrote into the lent buffer, or the refusal.
-#[derive(Clone, Copy)]
-pub enum ReportAnswer {
-    // So many bytes were written.
-    Written(usize),
-    Refused(Refusal),
-}

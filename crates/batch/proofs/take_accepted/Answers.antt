@@ -10,16 +10,16 @@ use mir.Val.{SFits, to_z, of_z}
 use mir.Facts.{to_z-of_z}
 use Rattle.rules.specs.declared.RuleList.{RuleList}
 use Rattle.rules.specs.Check.{active_rules}
-use Rattle.rules.proofs.CheckLaws.{accepted, between}
+use Rattle.rules.proofs.CheckLaws.{accepted}
 use Rattle.monitor.specs.declared.Monitor.{Monitor}
 use Rattle.monitor.specs.declared.Taken.{Taken}
 use Rattle.monitor.specs.Reading.{point_at}
 use Rattle.monitor.specs.Take.{taken_of}
-use Rattle.monitor.specs.Zone.{min_sigma, max_sigma, zone_at}
+use Rattle.monitor.specs.Zone.{zone_at}
 use Rattle.monitor.specs.ZoneLaws.{zone_exists}
 use Rattle.batch.specs.declared.Batch.{Batch}
 use Rattle.batch.specs.Batch.{readings_from, Left}
-use Rattle.batch.proofs.BatchLaws.{left_all, left_none, left_full, left_signal, left_quiet}
+use Rattle.batch.proofs.BatchLaws.{left_none, left_full, left_signal, left_quiet}
 use Rattle.batch.proofs.take_accepted.Goals as goal
 
 -- the point that the loop's body takes: the reading comes out of the slice as it stands there
@@ -34,51 +34,39 @@ at_centre : {centre : ℤ} {b : Batch} (l : RuleList) (m : Monitor) (sigma : ℕ
     → readings_from l m (to_z w32 (of_z w32 centre)) sigma xs ≡ b → b ≡ readings_from l m centre sigma xs
 at_centre l m sigma xs f e = sym e ∙ ap (λ (t : ℤ). readings_from l m t sigma xs) (to_z-of_z f)
 
-pub loop-i-init : goal.loop-i-init
-loop-i-init c =
-    let s = c.args in
-    let centre = to_z w32 (of_z w32 s.centre) in
-    (omega arith, left_all s.list s.monitor centre s.sigma s.readings.now c.requires)
-
 pub returns-then-points-ge-MAX_NUMBER : goal.returns-then-points-ge-MAX_NUMBER
 returns-then-points-ge-MAX_NUMBER c =
     let s = c.args in
     at_centre s.list s.monitor s.sigma s.readings.now c.ranges.centre
-    (left_full c.loop-i.invariant.1 (omega arith) (omega arith))
+    (left_full c.loop-i.invariant c.loop-i-test.true c.if-points-ge-MAX_NUMBER.true)
 
-pub zone_at-requires : goal.zone_at-requires
-zone_at-requires c =
-    (between min_sigma max_sigma c.args.sigma c.requires.fits).1
-
-pub take-requires : goal.take-requires
-take-requires c =
+pub take-requires-clause-len_le_max_rules : goal.take-requires-clause-len_le_max_rules
+take-requires-clause-len_le_max_rules c =
     let s = c.args in
     let x = get_or s.readings.now c.loop-i.i (pos 0) in
     let offset = to_z w32 (of_z w32 x) -ℤ to_z w32 (of_z w32 s.centre) in
-    let p = accepted s.list c.requires.rules in record {
-      len_le_max_rules = (p.1, p.2, omega (arith, c.zone_at.ensures, zone_exists offset s.sigma), omega arith);
-      state_value = c.loop-i.invariant.1.readable.valid;
-    }
+    let p = accepted s.list c.requires.rules in
+    (p.1, p.2, omega (arith, c.zone_at.ensures, zone_exists offset s.sigma), c.if-points-ge-MAX_NUMBER.false)
 
 pub returns-in-Signal : goal.returns-in-Signal
 returns-in-Signal c =
     let s = c.args in
-    let v = c.loop-i.invariant.1 in
+    let v = c.loop-i.invariant in
     let point = point_read v (record { sfits = c.zone_at-arg-1.given }) c.zone_at.ensures
     (sym c.in-Signal.is ∙ c.take.ensures) in
     rw c.fresh.ensures
     (at_centre s.list s.monitor s.sigma s.readings.now c.ranges.centre
-    (left_signal v (omega arith) (omega arith) point))
+    (left_signal v c.loop-i-test.true c.if-points-ge-MAX_NUMBER.false point))
 
 pub loop-i-preserved : goal.loop-i-preserved
 loop-i-preserved c =
-    let v = c.loop-i.invariant.1 in
+    let v = c.loop-i.invariant in
     let point = point_read v (record { sfits = c.zone_at-arg-1.given }) c.zone_at.ensures
     (sym c.in-Quiet.is ∙ c.take.ensures) in
-    (omega arith, left_quiet v (omega arith) (omega arith) point)
+    left_quiet v c.loop-i-test.true c.if-points-ge-MAX_NUMBER.false point
 
 pub returns : goal.returns
 returns c =
     let s = c.args in
     at_centre s.list s.monitor s.sigma s.readings.now c.ranges.centre
-    (left_none c.loop-i.invariant.1 (omega arith))
+    (left_none c.loop-i.invariant (omega arith))

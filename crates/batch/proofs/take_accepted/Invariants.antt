@@ -1,10 +1,6 @@
 -- `take_accepted` meets its contract. The invariant: what the readings left give is what the whole gives.
-use Prim.Native.Nat.{◌≤◌, ◌-◌}
 use Rattle.batch.specs.Batch.{Left}
 use Rattle.batch.proofs.take_accepted.Given as goal
 
 abbrev pub invariant-loop-i : goal.invariant-loop-i
-invariant-loop-i l = (l.i ≤ l.len) × Left l.list l.initial.at l.centre l.sigma l.readings l.at l.i
-
-abbrev pub decreases-loop-i : goal.decreases-loop-i
-decreases-loop-i l = l.len - l.i
+invariant-loop-i l = Left l.list l.initial.at l.centre l.sigma l.readings l.at l.i

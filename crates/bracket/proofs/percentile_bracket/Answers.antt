@@ -1,4 +1,5 @@
 -- `percentile_bracket` meets its contract: each refusal by the tests that lead to it, and the bracket of a call that none applies to.
+use Rattle.std.specs.Prelude.{Ok}
 use mathlib.Core.Path.{sym, ap, ◌∙◌}
 use native.Mathlib.Omega.{arith}
 use lib.ListN.{length}
@@ -6,7 +7,6 @@ use borrow.Author.Tests.{leb-true, not-true, not-false}
 use Rattle.rules.specs.Bounds.{max_states}
 use Rattle.runlength.specs.Scale.{min_horizon, max_horizon, units_per_one}
 use Rattle.runlength.specs.Chain.{cdf_of}
-use Rattle.bracket.specs.declared.BracketAnswer.TheVariants.{Accepted}
 use Rattle.bracket.specs.Limits.{min_states, min_percent, max_percent}
 use Rattle.bracket.proofs.BracketLaws.{accepted_bracket}
 use Rattle.bracket.proofs.RefusedLaws.{under_range, over_range, refused_length, refused_states, refused_percent, refused_total}
@@ -79,7 +79,7 @@ pub returns : goal.returns
 returns c =
     let a = c.args in
     let pmf = a.pmf.now in
-    ap Accepted c.find_bracket.ensures
+    ap Ok c.find_bracket.ensures
     ∙ sym (accepted_bracket pmf a.state_count a.percent (record {
       not_empty = omega arith;
       short = omega arith;

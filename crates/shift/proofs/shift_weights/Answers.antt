@@ -1,4 +1,5 @@
 -- `shift::shift_weights` meets its contract. A signed number is read back from its bits, so each fact is first taken back to the shift.
+use Rattle.std.specs.Prelude.{Ok}
 use native.Mathlib.Omega.{arith}
 use Prim.Native.Nat.{ℕ, ◌*◌, ◌≤◌, ◌<◌}
 use mathlib.Core.Path.{◌≡◌, sym, ap, ◌∙◌, subst}
@@ -10,7 +11,6 @@ use lib.Signed.{lt_z, non_neg}
 use mir.Syntax.{w32, w64}
 use mir.Val.{Fits, SFits, to_z, of_z}
 use mir.ValLaws.{to_z-of_z}
-use Rattle.shift.specs.declared.ShiftAnswer.TheVariants.{Accepted}
 use Rattle.shift.specs.Shift.{max_shift, weights_of}
 use Rattle.shift.proofs.ShiftLaws.{in_bounds}
 use Rattle.shift.proofs.ShiftedWeights.{shift_accepted, shift_refused}
@@ -104,4 +104,4 @@ returns c =
     let f = c.ranges.shift in
     let w = c.weights_at.result in
     let h = subst (λ (z : ℤ). w ≡ weights_of (sub_ℕ (nat_abs z) max_shift)) (raised_back s f (within s f c.if-shift-lt-MIN_SHIFT.false c.if-shift-gt-MAX_SHIFT.false)) c.weights_at.ensures in
-    ap Accepted (h ∙ sym (ap weights_of (t_is s f (within s f c.if-shift-lt-MIN_SHIFT.false c.if-shift-gt-MAX_SHIFT.false)))) ∙ sym (shift_accepted s (within s f c.if-shift-lt-MIN_SHIFT.false c.if-shift-gt-MAX_SHIFT.false))
+    ap Ok (h ∙ sym (ap weights_of (t_is s f (within s f c.if-shift-lt-MIN_SHIFT.false c.if-shift-gt-MAX_SHIFT.false)))) ∙ sym (shift_accepted s (within s f c.if-shift-lt-MIN_SHIFT.false c.if-shift-gt-MAX_SHIFT.false))

@@ -2,12 +2,12 @@
 use Rattle.call_arrays.specs.ReportCodeLaws.{written_code, refused_code}
 use Rattle.call_arrays.proofs.reports.report_code.Goals as goal
 
-pub returns-in-Refused : goal.returns-in-Refused
-returns-in-Refused c =
+pub returns-in-Err : goal.returns-in-Err
+returns-in-Err c =
     let a = c.args in
-    refused_code a.answer _ _ a.bytes.now c.in-Refused.is c.code.ensures
+    refused_code a.answer _ _ a.bytes.now c.in-Err.is c.code.ensures
 
-pub returns-in-Written : goal.returns-in-Written
-returns-in-Written c =
+pub returns-in-Ok : goal.returns-in-Ok
+returns-in-Ok c =
     let a = c.args in
-    written_code a.answer _ a.bytes.now c.in-Written.is
+    written_code a.answer _ a.bytes.now c.in-Ok.is

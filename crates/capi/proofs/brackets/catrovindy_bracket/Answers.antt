@@ -3,14 +3,14 @@ use mathlib.Core.Path.{refl}
 use Rattle.capi.specs.BracketCallLaws.{bracket_call}
 use Rattle.capi.proofs.brackets.catrovindy_bracket.Goals as goal
 
-pub returns-in-Refused : goal.returns-in-Refused
-returns-in-Refused c =
+pub returns-in-Err : goal.returns-in-Err
+returns-in-Err c =
     let a = c.args in
-    bracket_call a.pmf.now a.state_count a.percent a.answer.now _ _ c.percentile_bracket-found.result _
-    c.percentile_bracket-found.ensures c.in-Refused.is c.code.ensures refl
+    bracket_call a.pmf.now a.state_count a.percent a.answer.now _ _ c.percentile_bracket.result _
+    c.percentile_bracket.ensures c.in-Err.is c.code.ensures refl
 
-pub returns-in-Accepted : goal.returns-in-Accepted
-returns-in-Accepted c =
+pub returns-in-Ok : goal.returns-in-Ok
+returns-in-Ok c =
     let a = c.args in
-    bracket_call a.pmf.now a.state_count a.percent a.answer.now _ _ c.percentile_bracket-found.result _
-    c.percentile_bracket-found.ensures c.in-Accepted.is refl c.write_bracket.ensures
+    bracket_call a.pmf.now a.state_count a.percent a.answer.now _ _ c.percentile_bracket.result _
+    c.percentile_bracket.ensures c.in-Ok.is refl c.write_bracket.ensures

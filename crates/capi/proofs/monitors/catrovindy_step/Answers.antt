@@ -5,11 +5,11 @@ use Rattle.capi.specs.MonitorCall.{monitor_of}
 use Rattle.capi.specs.MonitorCallLaws.{step_call}
 use Rattle.capi.proofs.monitors.catrovindy_step.Goals as goal
 
-pub returns-in-Refused : goal.returns-in-Refused
-returns-in-Refused c =
+pub returns-in-Err : goal.returns-in-Err
+returns-in-Err c =
     let a = c.args in
     step_call (slot_list a.slots.now a.count) c.list_of.result (monitor_of a.state.now a.points.now) a.zone a.state.now a.points.now a.answer.now
-    _ _ _ _ c.step.result _ c.list_of.ensures c.step.ensures c.in-Refused.is c.code.ensures refl refl refl
+    _ _ _ _ c.step.result _ c.list_of.ensures c.step.ensures c.in-Err.is c.code.ensures refl refl refl
 
 pub returns-in-Quiet : goal.returns-in-Quiet
 returns-in-Quiet c =

@@ -7,16 +7,16 @@ use Rattle.codes.specs.Codes.{slot_list}
 use Rattle.capi.specs.PlotCallLaws.{plot_call}
 use Rattle.capi.proofs.plots.catrovindy_plot.Goals as goal
 
-pub returns-in-Refused : goal.returns-in-Refused
-returns-in-Refused c =
+pub returns-in-Err : goal.returns-in-Err
+returns-in-Err c =
     let a = c.args in
-    let called = c.box_plot-answer.ensures ∙ ap (λ (l : RuleList). box_plot_of (table_call l a.weights.now a.horizon a.pmf.now a.survival.now)) c.list_of.ensures in
+    let called = c.box_plot.ensures ∙ ap (λ (l : RuleList). box_plot_of (table_call l a.weights.now a.horizon a.pmf.now a.survival.now)) c.list_of.ensures in
     plot_call (table_call (slot_list a.slots.now a.count) a.weights.now a.horizon a.pmf.now a.survival.now) a.kinds.now a.values.now _ _ _ _ _
-    c.box_plot-answer.result _ called c.in-Refused.is c.code.ensures refl refl
+    c.box_plot.result _ called c.in-Err.is c.code.ensures refl refl
 
-pub returns-in-Accepted : goal.returns-in-Accepted
-returns-in-Accepted c =
+pub returns-in-Ok : goal.returns-in-Ok
+returns-in-Ok c =
     let a = c.args in
-    let called = c.box_plot-answer.ensures ∙ ap (λ (l : RuleList). box_plot_of (table_call l a.weights.now a.horizon a.pmf.now a.survival.now)) c.list_of.ensures in
+    let called = c.box_plot.ensures ∙ ap (λ (l : RuleList). box_plot_of (table_call l a.weights.now a.horizon a.pmf.now a.survival.now)) c.list_of.ensures in
     plot_call (table_call (slot_list a.slots.now a.count) a.weights.now a.horizon a.pmf.now a.survival.now) a.kinds.now a.values.now _ _ _ _ _
-    c.box_plot-answer.result _ called c.in-Accepted.is refl c.write_kinds.ensures c.write_values.ensures
+    c.box_plot.result _ called c.in-Ok.is refl c.write_kinds.ensures c.write_values.ensures

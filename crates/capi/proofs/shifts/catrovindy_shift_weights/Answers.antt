@@ -4,12 +4,12 @@ use mir.Facts.{to_z-of_z}
 use Rattle.capi.specs.ShiftCallLaws.{shift_call}
 use Rattle.capi.proofs.shifts.catrovindy_shift_weights.Goals as goal
 
-pub returns-in-Refused : goal.returns-in-Refused
-returns-in-Refused c =
+pub returns-in-Err : goal.returns-in-Err
+returns-in-Err c =
     let a = c.args in
-    shift_call (to_z-of_z c.ranges.shift) a.weights.now _ _ c.shift_weights-answer.result _ c.shift_weights-answer.ensures c.in-Refused.is c.code.ensures refl
+    shift_call (to_z-of_z c.ranges.shift) a.weights.now _ _ c.shift_weights.result _ c.shift_weights.ensures c.in-Err.is c.code.ensures refl
 
-pub returns-in-Accepted : goal.returns-in-Accepted
-returns-in-Accepted c =
+pub returns-in-Ok : goal.returns-in-Ok
+returns-in-Ok c =
     let a = c.args in
-    shift_call (to_z-of_z c.ranges.shift) a.weights.now _ _ c.shift_weights-answer.result _ c.shift_weights-answer.ensures c.in-Accepted.is refl c.weight_array.ensures
+    shift_call (to_z-of_z c.ranges.shift) a.weights.now _ _ c.shift_weights.result _ c.shift_weights.ensures c.in-Ok.is refl c.weight_array.ensures

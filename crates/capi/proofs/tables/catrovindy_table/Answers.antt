@@ -6,14 +6,14 @@ use Rattle.codes.specs.Codes.{slot_list}
 use Rattle.capi.specs.TableCallLaws.{call_refused, call_accepted}
 use Rattle.capi.proofs.tables.catrovindy_table.Goals as goal
 
-pub returns-in-Refused : goal.returns-in-Refused
-returns-in-Refused c =
+pub returns-in-Err : goal.returns-in-Err
+returns-in-Err c =
     let a = c.args in
-    let called = c.run_length_table-answer.ensures ∙ ap (λ (l : RuleList). table_of (table_call l a.weights.now a.horizon a.pmf.now a.survival.now)) c.list_of.ensures in
-    call_refused (table_call (slot_list a.slots.now a.count) a.weights.now a.horizon a.pmf.now a.survival.now) a.figures.now called _ c.in-Refused.is c.code.ensures
+    let called = c.run_length_table.ensures ∙ ap (λ (l : RuleList). table_of (table_call l a.weights.now a.horizon a.pmf.now a.survival.now)) c.list_of.ensures in
+    call_refused (table_call (slot_list a.slots.now a.count) a.weights.now a.horizon a.pmf.now a.survival.now) a.figures.now called _ c.in-Err.is c.code.ensures
 
-pub returns-in-Accepted : goal.returns-in-Accepted
-returns-in-Accepted c =
+pub returns-in-Ok : goal.returns-in-Ok
+returns-in-Ok c =
     let a = c.args in
-    let called = c.run_length_table-answer.ensures ∙ ap (λ (l : RuleList). table_of (table_call l a.weights.now a.horizon a.pmf.now a.survival.now)) c.list_of.ensures in
-    call_accepted (table_call (slot_list a.slots.now a.count) a.weights.now a.horizon a.pmf.now a.survival.now) a.figures.now called c.in-Accepted.is
+    let called = c.run_length_table.ensures ∙ ap (λ (l : RuleList). table_of (table_call l a.weights.now a.horizon a.pmf.now a.survival.now)) c.list_of.ensures in
+    call_accepted (table_call (slot_list a.slots.now a.count) a.weights.now a.horizon a.pmf.now a.survival.now) a.figures.now called c.in-Ok.is

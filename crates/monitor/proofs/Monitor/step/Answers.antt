@@ -1,24 +1,28 @@
 -- `Monitor::step` meets its contract: the check's refusal, or a step with accepted rules.
-use mathlib.Core.Path.{refl, sym, ◌∙◌}
-use denote.Enum.Declared.{tag_of}
-use Rattle.rules.proofs.CheckLaws.{accepted, is_accepted}
-use Rattle.rules.specs.contracts.Checked.{the_type}
+use Rattle.std.proofs.Common.{rules, ℕ, ◌≡◌, sym, ◌∙◌, Err}
+use Rattle.rules.specs.declared.RuleList.{RuleList}
+use Rattle.rules.specs.declared.refusal.Refusal.{Refusal}
+use Rattle.rules.specs.Check.{check_of}
+use Rattle.rules.proofs.CheckLaws.{accepted}
+use Rattle.monitor.specs.declared.Monitor.{Monitor}
 use Rattle.monitor.specs.Step.{step_of}
 use Rattle.monitor.proofs.StepLaws.{rules_accepted}
 use Rattle.monitor.proofs.Monitor.step.Goals as goal
 
-pub accepted_step-requires : goal.accepted_step-requires
-accepted_step-requires c =
-    let ok = is_accepted (tag_of the_type) (λ x. refl) c.check-checked.ensures c.in-Accepted.in-Accepted-own.keys2 in
-    let p = accepted c.args.list ok in
-    (p.1, p.2)
-
-pub returns-in-Refused : goal.returns-in-Refused
+rules_refused : (l : RuleList) (m : Monitor) (z : ℕ) (x : Refusal) → check_of l ≡ Err x → Err x ≡ step_of l m z
 unfolding step_of
-returns-in-Refused c = rw (← c.check-checked.ensures, c.in-Refused.is)
+rules_refused l m z x e = rw e
 
-pub returns-in-Accepted : goal.returns-in-Accepted
-returns-in-Accepted c =
-    let ok = is_accepted (tag_of the_type) (λ x. refl) c.check-checked.ensures c.in-Accepted.in-Accepted-own.keys2 in
+pub accepted_step-requires : goal.accepted_step-requires
+accepted_step-requires c = let p = accepted c.args.list (sym c.check.ensures ∙ c.in_ok-check.was) in (p.1, p.2)
+
+pub returns-in_err-check : goal.returns-in_err-check
+returns-in_err-check c =
+    let r : c.from_residual.result ≡ Err c.in_err-check.field-0.0 = search rules in
     let a = c.args in
-    c.accepted_step.ensures ∙ sym (rules_accepted a.list ok a.self a.zone)
+    r ∙ rules_refused a.list a.self a.zone c.in_err-check.field-0.0 (sym c.check.ensures ∙ c.in_err-check.was)
+
+pub returns : goal.returns
+returns c =
+    let a = c.args in
+    c.accepted_step.ensures ∙ sym (rules_accepted a.list (sym c.check.ensures ∙ c.in_ok-check.was) a.self a.zone)

@@ -1,17 +1,17 @@
 -- `weights_report::text_weights` meets its contract: the text's refusal, or what its shift gives.
+use Rattle.std.specs.Prelude.{Err}
 use mathlib.Core.Path.{◌≡◌, ap, ◌∙◌}
 use native.Mathlib.Omega.{arith}
 use mir.Syntax.{w32}
 use mir.Val.{to_z, of_z}
 use borrow.Author.Rules.{rules}
 use borrow.Author.Tests.{eq-eqb, ne_eqb}
-use Rattle.shift.specs.declared.ShiftAnswer.TheVariants.{Refused}
 use Rattle.shift.specs.Shift.{shift_of}
 use Rattle.weights_report.specs.declared.shifts.ShiftText.{ShiftText}
 use Rattle.weights_report.specs.WeightsReport.{weights_for, text_weights}
 use Rattle.weights_report.proofs.weights.text_weights.Goals as goal
 
-text_refused : (t : ShiftText) → (t.refusal.number ≡ 0 → ⊥) → Refused t.refusal ≡ weights_for t
+text_refused : (t : ShiftText) → (t.refusal.number ≡ 0 → ⊥) → Err t.refusal ≡ weights_for t
 text_refused t n = rw (ne_eqb t.refusal.number 0 n)
 
 text_read : (t : ShiftText) → t.refusal.number ≡ 0 → shift_of t.shift ≡ weights_for t
