@@ -15,5 +15,5 @@ pub const IN_CONTROL: [u32; ZONES] = [
 pub const HALVES: [u32; ZONES] = [0, 536870912, 0, 0, 536870912, 0, 0, 0];
 
 pub fn refusal(out: &impl Print, r: Refusal) -> io::Result<()> {
-    println!(out; " refused {} place {}", r.number, r.place)
+    println!(out; " refused {} place {}", r.number(), r.place())
 }

@@ -1,19 +1,19 @@
 // A batch with its printed answer.
-use batch::{Batch, LastPoint, take_readings};
+use batch::{Batch, take_readings};
 use monitor::Monitor;
 use rules::RuleList;
 use std::io;
 
 fn answer(out: &impl Print, found: Batch) -> io::Result<()> {
     // The rules that the last reading signals by, 0 for none.
-    let mask = match found.last {
-        LastPoint::Quiet => 0,
-        LastPoint::Signal(mask) => mask,
-    };
+    let mask = found.signal.unwrap_or(0);
     let next = found.next;
     print!(out; " taken {} count {} mask {mask}", found.taken, found.count)?;
     print!(out; " then state {} count {}", next.state, next.count)?;
-    show::refusal(out, found.refusal)
+    match found.refusal {
+        Some(r) => show::refusal(out, r),
+        None => println!(out; " refused 0 place 0"),
+    }
 }
 
 // The batch on a chart with centre 100.

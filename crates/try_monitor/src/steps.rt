@@ -1,7 +1,7 @@
 // The monitor's step.
 use crate::answers;
 use monitor::Monitor;
-use monitor::zone::{ZoneAnswer, zone_of};
+use monitor::zone::zone_of;
 use rules::RuleList;
 use show::lists::Rules::{One, Two};
 use show::lists::{Rules, T};
@@ -68,7 +68,7 @@ pub fn run(out: &impl Print, heading: &str, cases: &[Case]) -> io::Result<()> {
 
 // The zone of a reading on the chart 100,10, and the step there.
 fn reading(out: &impl Print, monitor: Monitor, list: RuleList, r: i32) -> io::Result<Monitor> {
-    let ZoneAnswer::Zone(zone) = zone_of(r, 100, 10) else {
+    let Ok(zone) = zone_of(r, 100, 10) else {
         return Ok(monitor);
     };
     print!(out; "{r} zone {zone}")?;
