@@ -15,22 +15,15 @@ pub struct Exact {
 #[derive(Clone, Copy)]
 pub struct Decimal {
     pub units: u64,
-    pub places: usize,
+    pub places: u32,
 }
 
 // 10 to a power up to 5.
-fn ten_to(power: usize) -> u64
+fn ten_to(power: u32) -> u64
     ensures positive { 1 ≤ result }
     ensures bound { result ≤ 100000 }
 {
-    match power {
-        0 => 1,
-        1 => 10,
-        2 => 100,
-        3 => 1000,
-        4 => 10000,
-        _ => 100000,
-    }
+    10u64.pow(power.min(5))
 }
 
 impl Exact {
@@ -38,7 +31,7 @@ impl Exact {
     const WHOLE_LIMIT: u64 = 1 << 32;
 
     // The number in units of the last of so many decimal places, to the nearest; a half goes up.
-    pub fn in_places(self, places: usize) -> u64 {
+    pub fn in_places(self, places: u32) -> u64 {
         let one = u128::from(UNITS_PER_ONE);
         let exact = u128::from(self.whole % Exact::WHOLE_LIMIT) * one + u128::from(self.fraction);
         let scaled = exact * u128::from(ten_to(places));
@@ -63,7 +56,7 @@ impl fmt::Display for Decimal {
             f,
             "{whole}.{:0width$}",
             self.units % one,
-            width = self.places
+            width = self.places as usize
         )
     }
 }

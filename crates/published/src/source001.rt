@@ -11,14 +11,18 @@ use std::{fmt, io};
 #[derive(Clone, Copy)]
 struct Published(u64, u64, u64, u64);
 
-// Its name, the rule that is added to R1, and what is published for each setting. A stands in the place of A1, and B in that of B1.
-struct Table(&'static str, T, [Published; 12]);
+// The rule is added to R1: A stands in the place of A1, and B in that of B1. A figure is published for each setting.
+struct Table {
+    name: &'static str,
+    added: T,
+    published: [Published; 12],
+}
 
 static TABLES: [Table; 4] = [
-    Table(
-        "001 table 1 R1+R2",
-        T(2, 3, 2),
-        [
+    Table {
+        name: "001 table 1 R1+R2",
+        added: T(2, 3, 2),
+        published: [
             Published(16660, 49, 116, 230),
             Published(1641, 6, 12, 22),
             Published(623, 3, 5, 8),
@@ -32,11 +36,11 @@ static TABLES: [Table; 4] = [
             Published(241, 1, 2, 3),
             Published(176, 1, 1, 2),
         ],
-    ),
-    Table(
-        "001 table 2 R1+R3",
-        T(4, 5, 6),
-        [
+    },
+    Table {
+        name: "001 table 2 R1+R3",
+        added: T(4, 5, 6),
+        published: [
             Published(5329, 17, 38, 73),
             Published(975, 5, 7, 13),
             Published(512, 4, 5, 6),
@@ -50,11 +54,11 @@ static TABLES: [Table; 4] = [
             Published(259, 1, 2, 4),
             Published(190, 1, 1, 2),
         ],
-    ),
-    Table(
-        "001 table 3 R1+R4",
-        T(2, 2, 2),
-        [
+    },
+    Table {
+        name: "001 table 3 R1+R4",
+        added: T(2, 2, 2),
+        published: [
             Published(22446, 65, 156, 311),
             Published(2091, 7, 15, 29),
             Published(737, 3, 5, 10),
@@ -68,11 +72,11 @@ static TABLES: [Table; 4] = [
             Published(252, 1, 2, 3),
             Published(179, 1, 1, 2),
         ],
-    ),
-    Table(
-        "001 table 4 R1+R5",
-        T(5, 5, 6),
-        [
+    },
+    Table {
+        name: "001 table 4 R1+R5",
+        added: T(5, 5, 6),
+        published: [
             Published(20758, 61, 145, 287),
             Published(1977, 7, 14, 27),
             Published(761, 4, 6, 10),
@@ -86,7 +90,7 @@ static TABLES: [Table; 4] = [
             Published(282, 1, 2, 4),
             Published(196, 1, 1, 2),
         ],
-    ),
+    },
 ];
 
 // One setting of a table.
@@ -98,7 +102,7 @@ struct Chart<'a> {
 
 impl fmt::Display for Chart<'_> {
     fn fmt<W: fmt::Write>(&self, f: &mut fmt::Formatter<W>) -> fmt::Result {
-        write!(f, "{} {}", self.table.0, self.setting)
+        write!(f, "{} {}", self.table.name, self.setting)
     }
 }
 
@@ -109,46 +113,36 @@ fn lines(
     published: Published,
 ) -> io::Result<()> {
     let Published(mean, quartile_1, median, quartile_3) = published;
-    let list = list_of(&[T(1, 1, 1), chart.table.1]);
+    let list = list_of(&[T(1, 1, 1), chart.table.added]);
     let weights = chart.setting.weights();
     let f = figures::of_chart(list, weights, figures::horizon_for(mean / 100));
     let hundredths = Decimal {
         units: mean,
         places: 2,
     };
-    tally.figure(
-        out,
-        chart,
-        "arl",
-        f.map(|f| f.mean.in_places(2)),
-        hundredths,
-    )?;
-    tally.figure(
-        out,
-        chart,
-        "q1",
-        f.and_then(|f| f.quartile_1),
-        Decimal::whole(quartile_1),
-    )?;
-    tally.figure(
-        out,
-        chart,
-        "median",
-        f.and_then(|f| f.median),
-        Decimal::whole(median),
-    )?;
-    tally.figure(
-        out,
-        chart,
-        "q3",
-        f.and_then(|f| f.quartile_3),
-        Decimal::whole(quartile_3),
-    )
+    let figures = [
+        ("arl", f.map(|f| f.mean.in_places(2)), hundredths),
+        (
+            "q1",
+            f.and_then(|f| f.quartile_1),
+            Decimal::whole(quartile_1),
+        ),
+        ("median", f.and_then(|f| f.median), Decimal::whole(median)),
+        (
+            "q3",
+            f.and_then(|f| f.quartile_3),
+            Decimal::whole(quartile_3),
+        ),
+    ];
+    for (kind, ours, published) in figures {
+        tally.figure(out, chart, kind, ours, published)?;
+    }
+    Ok(())
 }
 
 pub fn tables(out: &impl Print, tally: &mut Tally) -> io::Result<()> {
     for table in &TABLES {
-        for (setting, published) in SETTINGS.iter().zip(&table.2) {
+        for (setting, published) in SETTINGS.iter().zip(&table.published) {
             lines(out, tally, &Chart { table, setting }, *published)?;
         }
     }

@@ -7,14 +7,30 @@ use show::IN_CONTROL;
 use show::lists::{T, list_of, with};
 use std::{fmt, io};
 
-// Its number, and the rule for each side of the centre line.
-struct Added(u32, T, T);
+// A rule for each side of the centre line.
+struct Added {
+    number: u32,
+    below: T,
+    above: T,
+}
 
-const R2: Added = Added(2, T(2, 3, 64), T(2, 3, 2));
+const R2: Added = Added {
+    number: 2,
+    below: T(2, 3, 64),
+    above: T(2, 3, 2),
+};
 
-const R3: Added = Added(3, T(4, 5, 96), T(4, 5, 6));
+const R3: Added = Added {
+    number: 3,
+    below: T(4, 5, 96),
+    above: T(4, 5, 6),
+};
 
-const R4: Added = Added(4, T(9, 9, 112), T(9, 9, 14));
+const R4: Added = Added {
+    number: 4,
+    below: T(9, 9, 112),
+    above: T(9, 9, 14),
+};
 
 // What is added to R1, and the published mean in units of 0.0001.
 struct Chart(&'static [Added], u64);
@@ -34,19 +50,20 @@ impl fmt::Display for Chart {
     fn fmt<W: fmt::Write>(&self, f: &mut fmt::Formatter<W>) -> fmt::Result {
         write!(f, "002 table 1 R1")?;
         for added in self.0 {
-            write!(f, "+R{}", added.0)?;
+            write!(f, "+R{}", added.number)?;
         }
         Ok(())
     }
 }
 
 fn line(out: &impl Print, tally: &mut Tally, chart: &Chart) -> io::Result<()> {
+    let Chart(rules, published) = chart;
     let mut list = list_of(&[T(1, 1, 1)]);
-    for added in chart.0 {
-        list = with(with(list, added.1), added.2);
+    for added in *rules {
+        list = with(with(list, added.below), added.above);
     }
     let mean = Decimal {
-        units: chart.1,
+        units: *published,
         places: 4,
     };
     let f = figures::of_chart(list, IN_CONTROL, figures::horizon_for(mean.units / 10000));

@@ -29,21 +29,22 @@ pub static SETTINGS: [Setting; 12] = [
 impl Setting {
     // The four zones stand in the places of S, A1, B1 and C1.
     pub fn weights(&self) -> [u32; ZONES] {
-        let [s, a, b, c] = self.3;
+        let Setting(_, _, _, [s, a, b, c]) = *self;
         [s, a, b, c, 0, 0, 0, 0]
     }
 }
 
 impl fmt::Display for Setting {
     fn fmt<W: fmt::Write>(&self, f: &mut fmt::Formatter<W>) -> fmt::Result {
+        let Setting(freedom, r, lambda, _) = *self;
         let r = Decimal {
-            units: self.1,
+            units: r,
             places: 1,
         };
         let lambda = Decimal {
-            units: self.2,
+            units: lambda,
             places: 1,
         };
-        write!(f, "df {} r {r} lambda {lambda}", self.0)
+        write!(f, "df {freedom} r {r} lambda {lambda}")
     }
 }

@@ -5,7 +5,7 @@ use std::io;
 
 // A number's bit pattern; what is no number, which no record holds, would print as 0.
 fn bits(x: f64) -> u64 {
-    if x == x { f64::to_bits(x) } else { 0 }
+    if x.is_nan() { 0 } else { x.to_bits() }
 }
 
 fn item(out: &impl Print, percent: u32, item: PlotItem) -> io::Result<()> {
