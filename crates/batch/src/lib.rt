@@ -5,8 +5,7 @@ ghost use Rattle.std.specs.Prelude.{◌≡◌, Some};
 ghost use Rattle.monitor.specs.Reading.{Readable, reading_check};
 ghost use Rattle.batch.specs.Batch.{none_taken, readings_from, batch_of};
 
-use monitor::zone::{sigma_fits, zone_at};
-use monitor::{Monitor, Taken};
+use monitor::{Chart, Monitor, Taken};
 use rules::{MAX_NUMBER, Refusal, RuleList};
 
 // How far the readings were taken. It stopped at a refusal where there is one: where `taken` is 0 the batch is refused, else reading `taken`
@@ -22,15 +21,9 @@ pub struct Batch {
 }
 
 // The readings where nothing can be refused but for the count.
-fn take_accepted(
-    list: RuleList,
-    monitor: Monitor,
-    centre: i32,
-    sigma: u32,
-    readings: &[i32],
-) -> Batch
-    requires { Readable list sigma monitor }
-    ensures { result ≡ readings_from list monitor centre sigma readings.now }
+fn take_accepted(list: RuleList, monitor: Monitor, chart: Chart, readings: &[i32]) -> Batch
+    requires { Readable list chart.sigma monitor }
+    ensures { result ≡ readings_from list monitor chart.centre chart.sigma readings.now }
 {
     let mut at = monitor;
     for (i, reading) in readings.iter().enumerate() {
@@ -44,7 +37,7 @@ fn take_accepted(
                 next: at,
             };
         }
-        match at.take(list, zone_at(*reading, centre, sigma)) {
+        match at.take(list, chart.zone_at(*reading)) {
             Taken::Quiet(next) => at = next,
             Taken::Signal(mask) => {
                 return Batch {
@@ -80,11 +73,11 @@ fn none_taken(refusal: Refusal, monitor: Monitor) -> Batch
 }
 
 // What a first reading would be refused by: 2, 3, 4; 1; 5; 7, in this order.
-fn check(list: RuleList, monitor: Monitor, sigma: u32) -> Result<(), Refusal>
-    ensures { result ≡ reading_check list monitor sigma }
+fn check(list: RuleList, monitor: Monitor, chart: Chart) -> Result<(), Refusal>
+    ensures { result ≡ reading_check list monitor chart.sigma }
 {
     list.check()?;
-    if !sigma_fits(sigma) {
+    if !chart.sigma_fits() {
         return Err(Refusal::Sigma);
     }
     if !monitor.valid(list) {
@@ -98,17 +91,11 @@ fn check(list: RuleList, monitor: Monitor, sigma: u32) -> Result<(), Refusal>
 
 // Readings taken one after another until one signals, one is refused, or none is left. All that is given is checked as for a first reading,
 // also where there is none.
-pub fn take_readings(
-    list: RuleList,
-    monitor: Monitor,
-    centre: i32,
-    sigma: u32,
-    readings: &[i32],
-) -> Batch
-    ensures { result ≡ batch_of list monitor centre sigma readings.now }
+pub fn take_readings(list: RuleList, monitor: Monitor, chart: Chart, readings: &[i32]) -> Batch
+    ensures { result ≡ batch_of list monitor chart.centre chart.sigma readings.now }
 {
-    match check(list, monitor, sigma) {
+    match check(list, monitor, chart) {
         Err(refusal) => none_taken(refusal, monitor),
-        Ok(()) => take_accepted(list, monitor, centre, sigma, readings),
+        Ok(()) => take_accepted(list, monitor, chart, readings),
     }
 }

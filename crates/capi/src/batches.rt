@@ -8,7 +8,7 @@ ghost use Rattle.capi.specs.BatchCall.{BatchCall};
 use call_arrays::{batch_code, write_batch};
 use codes::list_of;
 use codes::sizes::{BATCH_ANSWER, SLOTS};
-use monitor::Monitor;
+use monitor::{Chart, Monitor};
 
 // Readings one after another until one signals or none is left: `batch::take_readings`. Answers 0, with the monitor for the next reading,
 // and in `answer` how many readings were taken, the count and the mask of the last of them (the mask is 0 where all were quiet), and the
@@ -34,7 +34,8 @@ pub fn catrovindy_batch(
         state: kept,
         count: counted,
     };
-    let found = batch::take_readings(list_of(*slots, count), given, centre, sigma, readings);
+    let chart = Chart { centre, sigma };
+    let found = batch::take_readings(list_of(*slots, count), given, chart, readings);
     let refused = batch_code(found);
     if refused != 0 {
         return refused;

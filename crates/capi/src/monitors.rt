@@ -6,14 +6,14 @@ ghost use Rattle.capi.specs.MonitorCall.{monitor_of, ZoneCall, StepCall};
 use call_arrays::write_step;
 use codes::sizes::{SLOTS, STEP_ANSWER};
 use codes::{code, list_of};
-use monitor::zone::zone_of;
-use monitor::{Monitor, Step};
+use monitor::{Chart, Monitor, Step};
 
-// The zone of a reading: `monitor::zone::zone_of`. Answers 0 and writes the zone; or answers the refusal and alters nothing.
+// The zone of a reading: `Chart::zone_of`. Answers 0 and writes the zone; or answers the refusal and alters nothing.
 pub fn catrovindy_zone(reading: i32, centre: i32, sigma: u32, zone: &mut [u32; 1]) -> u64
     ensures { ZoneCall reading centre sigma zone.old zone.new result }
 {
-    match zone_of(reading, centre, sigma) {
+    let chart = Chart { centre, sigma };
+    match chart.zone_of(reading) {
         Err(r) => code(r),
         Ok(z) => {
             zone[0] = z;

@@ -5,7 +5,7 @@ ghost use Rattle.capi.specs.MonitorCall.{monitor_of, ZoneCall, StepCall};
 
 use codes::sizes::{SLOTS, STEP_ANSWER};
 
-// The zone of a reading: `monitor::zone::zone_of`. Answers 0 and writes the zone; or answers the refusal and alters nothing.
+// The zone of a reading: `Chart::zone_of`. Answers 0 and writes the zone; or answers the refusal and alters nothing.
 #[unsafe(no_mangle)]
 pub extern "C" fn catrovindy_zone(reading: i32, centre: i32, sigma: u32, zone: &mut [u32; 1]) -> u64
     ensures { ZoneCall reading centre sigma zone.old zone.new result }

@@ -6,7 +6,6 @@ ghost use Rattle.monitor_report.specs.MonitorReport.{monitor_printed};
 use crate::MONITOR_SIZE;
 use crate::points::put_points;
 use monitor::Chart;
-use monitor::zone::sigma_fits;
 use rules::Refusal;
 use write::put_answer;
 
@@ -17,13 +16,13 @@ pub fn monitor_report(text: &[u8], out: &mut [u8; MONITOR_SIZE]) -> Result<usize
 {
     let read = monitor_text::monitor_text(text)?;
     read.list.check()?;
-    if !sigma_fits(read.sigma) {
-        return Err(Refusal::Sigma);
-    }
     let chart = Chart {
         centre: read.centre,
         sigma: read.sigma,
     };
+    if !chart.sigma_fits() {
+        return Err(Refusal::Sigma);
+    }
     Ok(put_points(out, text, read.points, read.list, chart))
 }
 

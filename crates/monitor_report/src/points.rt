@@ -15,7 +15,6 @@ ghost use Rattle.monitor_report.specs.Nodes.{taken_chart};
 use crate::nodes::{chart_point, fresh_node, put_totals};
 use decimal::signed_value;
 use monitor::Chart;
-use monitor::zone::zone_at;
 use monitor_lines::put_point;
 use monitor_text::NODES;
 use rules::RuleList;
@@ -45,7 +44,7 @@ pub(crate) fn put_points(
             return put_totals(out, end, nodes);
         };
         let node = read.values[0];
-        let zone = zone_at(signed_value(read.values[1]), chart.centre, chart.sigma);
+        let zone = chart.zone_at(signed_value(read.values[1]));
         let point = chart_point(node, nodes[node as usize], list, zone);
         let line = point.line;
         let next_node = point.next;

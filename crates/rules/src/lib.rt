@@ -9,7 +9,7 @@ mod refusal;
 mod weights;
 
 pub use refusal::Refusal;
-pub use weights::{ZoneWeights, weight_array};
+pub use weights::ZoneWeights;
 
 // How many zones the chart has: they are numbered from 0. Nothing else says it.
 pub const ZONES: usize = 8;

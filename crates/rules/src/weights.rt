@@ -4,7 +4,7 @@ ghost use Rattle.rules.specs.Weights.{weight_list};
 
 use crate::ZONES;
 
-// From zone 0 on. An enum can hold no array, but this.
+// Each zone's weight by its name.
 #[derive(Clone, Copy)]
 pub struct ZoneWeights {
     pub s: u32,
@@ -17,9 +17,11 @@ pub struct ZoneWeights {
     pub c0: u32,
 }
 
-// The weights from zone 0 on.
-pub fn weight_array(w: ZoneWeights) -> [u32; ZONES]
-    ensures { result ≡ weight_list w }
-{
-    [w.s, w.a1, w.b1, w.c1, w.c2, w.b2, w.a2, w.c0]
+// From zone 0 on.
+impl From<ZoneWeights> for [u32; ZONES] {
+    ghost from_gives = { λ w r. r ≡ weight_list w };
+
+    fn from(w: ZoneWeights) -> [u32; ZONES] {
+        [w.s, w.a1, w.b1, w.c1, w.c2, w.b2, w.a2, w.c0]
+    }
 }

@@ -9,12 +9,12 @@ pub returns-in_err-check : goal.returns-in_err-check
 returns-in_err-check c =
     let s = c.args in
     let r : c.from_residual.result ≡ Err c.in_err-check.field-0.0 = search rules in
-    r ∙ sym (check_bad_rules s.list s.monitor s.sigma c.in_err-check.field-0.0 (sym c.check.ensures ∙ c.in_err-check.was))
+    r ∙ sym (check_bad_rules s.list s.monitor s.chart.sigma c.in_err-check.field-0.0 (sym c.check.ensures ∙ c.in_err-check.was))
 
 pub returns-then-not-sigma_fits : goal.returns-then-not-sigma_fits
 returns-then-not-sigma_fits c =
     let s = c.args in
-    sym (check_bad_sigma s.list s.monitor s.sigma (sym c.check.ensures ∙ c.in_ok-check.was) (sym c.if-not-sigma_fits.ensures))
+    sym (check_bad_sigma s.list s.monitor s.chart.sigma (sym c.check.ensures ∙ c.in_ok-check.was) (sym c.if-not-sigma_fits.ensures))
 
 pub valid-requires : goal.valid-requires
 valid-requires c = let p = accepted c.args.list (sym c.check.ensures ∙ c.in_ok-check.was) in (p.1, p.2)
@@ -23,25 +23,25 @@ pub returns-then-not-valid : goal.returns-then-not-valid
 returns-then-not-valid c =
     let s = c.args in
     sym (
-    check_bad_state s.list s.monitor s.sigma (sym c.check.ensures ∙ c.in_ok-check.was) (sym c.if-not-sigma_fits.ensures)
+    check_bad_state s.list s.monitor s.chart.sigma (sym c.check.ensures ∙ c.in_ok-check.was) (sym c.if-not-sigma_fits.ensures)
     (sym c.if-not-valid.ensures))
 
 pub returns-then-monitor-ge-MAX_NUMBER : goal.returns-then-monitor-ge-MAX_NUMBER
 returns-then-monitor-ge-MAX_NUMBER c =
     let s = c.args in
-    let readable : Readable s.list s.sigma s.monitor = record {
+    let readable : Readable s.list s.chart.sigma s.monitor = record {
       rules = sym c.check.ensures ∙ c.in_ok-check.was;
       fits = sym c.if-not-sigma_fits.ensures;
       valid = sym c.if-not-valid.ensures;
     } in
-    sym (check_bad_count s.list s.monitor s.sigma readable (omega arith))
+    sym (check_bad_count s.list s.monitor s.chart.sigma readable (omega arith))
 
 pub returns : goal.returns
 returns c =
     let s = c.args in
-    let readable : Readable s.list s.sigma s.monitor = record {
+    let readable : Readable s.list s.chart.sigma s.monitor = record {
       rules = sym c.check.ensures ∙ c.in_ok-check.was;
       fits = sym c.if-not-sigma_fits.ensures;
       valid = sym c.if-not-valid.ensures;
     } in
-    sym (check_accepted s.list s.monitor s.sigma readable (omega arith))
+    sym (check_accepted s.list s.monitor s.chart.sigma readable (omega arith))

@@ -1,9 +1,5 @@
 -- `take_accepted` meets its contract. The invariant: what the readings left give is what the whole gives.
-use mathlib.Core.Path.{◌≡◌, sym, ap, ◌∙◌}
-use mathlib.Core.List.{List}
-use Prim.Native.Nat.{ℕ}
-use native.Mathlib.Omega.{arith}
-use lib.IntN.{ℤ, pos, ◌-ℤ◌}
+use Rattle.std.proofs.Common.{◌≡◌, sym, ap, ◌∙◌, List, ℕ, arith, ℤ, pos, ◌-ℤ◌}
 use lib.ListN.{get_or}
 use mir.Syntax.{w32}
 use mir.Val.{SFits, to_z, of_z}
@@ -17,8 +13,7 @@ use Rattle.monitor.specs.Reading.{point_at}
 use Rattle.monitor.specs.Take.{taken_of}
 use Rattle.monitor.specs.Zone.{zone_at}
 use Rattle.monitor.specs.ZoneLaws.{zone_exists}
-use Rattle.batch.specs.declared.Batch.{Batch}
-use Rattle.batch.specs.Batch.{readings_from, Left}
+use Rattle.batch.specs.Batch.{Left}
 use Rattle.batch.proofs.BatchLaws.{left_none, left_full, left_signal, left_quiet}
 use Rattle.batch.proofs.take_accepted.Goals as goal
 
@@ -29,34 +24,24 @@ module _ {l : RuleList} {start : Monitor} {centre : ℤ} {sigma : ℕ} {xs : Lis
       → t ≡ taken_of (active_rules l) m z → t ≡ point_at l m centre sigma (get_or xs i (pos 0))
   point_read f ez et = et ∙ ap (taken_of (active_rules l) m) (ez ∙ ap (λ (y : ℤ). zone_at (y -ℤ centre) sigma) (to_z-of_z f))
 
--- what the loop says of the centre as it is kept holds of the centre as it was given
-at_centre : {centre : ℤ} {b : Batch} (l : RuleList) (m : Monitor) (sigma : ℕ) (xs : List ℤ) → SFits w32 centre
-    → readings_from l m (to_z w32 (of_z w32 centre)) sigma xs ≡ b → b ≡ readings_from l m centre sigma xs
-at_centre l m sigma xs f e = sym e ∙ ap (λ (t : ℤ). readings_from l m t sigma xs) (to_z-of_z f)
-
 pub returns-then-points-ge-MAX_NUMBER : goal.returns-then-points-ge-MAX_NUMBER
 returns-then-points-ge-MAX_NUMBER c =
-    let s = c.args in
-    at_centre s.list s.monitor s.sigma s.readings.now c.ranges.centre
-    (left_full c.loop-i.invariant c.loop-i-test.true c.if-points-ge-MAX_NUMBER.true)
+    sym (left_full c.loop-i.invariant c.loop-i-test.true c.if-points-ge-MAX_NUMBER.true)
 
 pub take-requires-clause-len_le_max_rules : goal.take-requires-clause-len_le_max_rules
 take-requires-clause-len_le_max_rules c =
     let s = c.args in
     let x = get_or s.readings.now c.loop-i.i (pos 0) in
-    let offset = to_z w32 (of_z w32 x) -ℤ to_z w32 (of_z w32 s.centre) in
+    let offset = to_z w32 (of_z w32 x) -ℤ s.chart.centre in
     let p = accepted s.list c.requires.rules in
-    (p.1, p.2, omega (arith, c.zone_at.ensures, zone_exists offset s.sigma), c.if-points-ge-MAX_NUMBER.false)
+    (p.1, p.2, omega (arith, c.zone_at.ensures, zone_exists offset s.chart.sigma), c.if-points-ge-MAX_NUMBER.false)
 
 pub returns-in-Signal : goal.returns-in-Signal
 returns-in-Signal c =
-    let s = c.args in
     let v = c.loop-i.invariant in
     let point = point_read v (record { sfits = c.zone_at-arg-1.given }) c.zone_at.ensures
     (sym c.in-Signal.is ∙ c.take.ensures) in
-    rw c.fresh.ensures
-    (at_centre s.list s.monitor s.sigma s.readings.now c.ranges.centre
-    (left_signal v c.loop-i-test.true c.if-points-ge-MAX_NUMBER.false point))
+    rw c.fresh.ensures (sym (left_signal v c.loop-i-test.true c.if-points-ge-MAX_NUMBER.false point))
 
 pub loop-i-preserved : goal.loop-i-preserved
 loop-i-preserved c =
@@ -66,7 +51,4 @@ loop-i-preserved c =
     left_quiet v c.loop-i-test.true c.if-points-ge-MAX_NUMBER.false point
 
 pub returns : goal.returns
-returns c =
-    let s = c.args in
-    at_centre s.list s.monitor s.sigma s.readings.now c.ranges.centre
-    (left_none c.loop-i.invariant (omega arith))
+returns c = sym (left_none c.loop-i.invariant (omega arith))

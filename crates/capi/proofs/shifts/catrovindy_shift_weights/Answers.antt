@@ -12,4 +12,4 @@ returns-in-Err c =
 pub returns-in-Ok : goal.returns-in-Ok
 returns-in-Ok c =
     let a = c.args in
-    shift_call (to_z-of_z c.ranges.shift) a.weights.now _ _ c.shift_weights.result _ c.shift_weights.ensures c.in-Ok.is refl c.weight_array.ensures
+    shift_call (to_z-of_z c.ranges.shift) a.weights.now _ _ c.shift_weights.result _ c.shift_weights.ensures c.in-Ok.is refl c.into.ensures

@@ -1,5 +1,0 @@
--- `zone::sigma_fits` meets its contract: by the two bounds of sigma.
-use Rattle.monitor.proofs.zone.sigma_fits.Goals as goal
-
-pub returns : goal.returns
-returns c = c.within.ensures
