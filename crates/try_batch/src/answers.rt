@@ -1,6 +1,6 @@
 // A batch with its printed answer.
 use batch::{Batch, take_readings};
-use monitor::Monitor;
+use monitor::{Chart, Monitor};
 use rules::RuleList;
 use std::io;
 
@@ -26,5 +26,6 @@ pub fn batch(
     readings: &[i32],
 ) -> io::Result<()> {
     print!(out; "{name}:")?;
-    answer(out, take_readings(list, monitor, 100, sigma, readings))
+    let chart = Chart { centre: 100, sigma };
+    answer(out, take_readings(list, monitor, chart, readings))
 }

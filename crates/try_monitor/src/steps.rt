@@ -1,7 +1,6 @@
 // The monitor's step.
 use crate::answers;
-use monitor::Monitor;
-use monitor::zone::zone_of;
+use monitor::{Chart, Monitor};
 use rules::RuleList;
 use show::lists::Rules::{One, Two};
 use show::lists::{Rules, T};
@@ -66,9 +65,14 @@ pub fn run(out: &impl Print, heading: &str, cases: &[Case]) -> io::Result<()> {
     Ok(())
 }
 
-// The zone of a reading on the chart 100,10, and the step there.
+const CHART: Chart = Chart {
+    centre: 100,
+    sigma: 10,
+};
+
+// The zone of a reading on the chart, and the step there.
 fn reading(out: &impl Print, monitor: Monitor, list: RuleList, r: i32) -> io::Result<Monitor> {
-    let Ok(zone) = zone_of(r, 100, 10) else {
+    let Ok(zone) = CHART.zone_of(r) else {
         return Ok(monitor);
     };
     print!(out; "{r} zone {zone}")?;

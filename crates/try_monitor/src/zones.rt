@@ -1,6 +1,6 @@
 // The zone of a reading.
 use crate::answers;
-use monitor::zone::zone_of;
+use monitor::Chart;
 use std::io;
 
 // A reading, the centre line, sigma.
@@ -65,7 +65,11 @@ pub fn run(out: &impl Print, heading: &str, cases: &[Case]) -> io::Result<()> {
     println!(out; "{heading}")?;
     for Case(reading, centre, sigma) in cases {
         print!(out; "{reading} on {centre} sigma {sigma}")?;
-        answers::zoned(out, zone_of(*reading, *centre, *sigma))?;
+        let chart = Chart {
+            centre: *centre,
+            sigma: *sigma,
+        };
+        answers::zoned(out, chart.zone_of(*reading))?;
     }
     Ok(())
 }

@@ -1,5 +1,5 @@
 // Every shift through the run-length table of the Western Electric rules, to 48 periods.
-use rules::{RuleList, ZoneWeights, weight_array};
+use rules::{RuleList, ZoneWeights};
 use shift::{MAX_SHIFT, MIN_SHIFT, shift_weights};
 use std::io;
 use table::run_length_table;
@@ -7,7 +7,7 @@ use table::run_length_table;
 // What is left at 48, and the mean cut there.
 fn table_of(out: &impl Print, w: ZoneWeights) -> io::Result<()> {
     let list = RuleList::western_electric();
-    match run_length_table(list, weight_array(w), 48, &mut [0; 48], &mut [0; 48]) {
+    match run_length_table(list, w.into(), 48, &mut [0; 48], &mut [0; 48]) {
         Ok(f) => {
             println!(out;
                 " left {} mean {} and {}",
