@@ -1,4 +1,7 @@
 // Rule lists, as tables of cases write them.
+ghost use Rattle.std.specs.Prelude.{◌≡◌, ◌+◌, ◌≤◌, ◌<◌, length, min};
+ghost use Rattle.rules.specs.Bounds.{max_rules};
+
 use rules::{Rule, RuleList};
 use std::{fmt, io};
 
@@ -38,9 +41,11 @@ impl Rules {
             Rules::Slots(first, second, others, len) => (first, second, others, len),
         }
     }
+}
 
-    pub fn list(self) -> RuleList {
-        let (first, second, others, len) = self.slots();
+impl From<Rules> for RuleList {
+    fn from(rules: Rules) -> RuleList {
+        let (first, second, others, len) = rules.slots();
         let mut rules = [Rule::from(others); RuleList::MAX_RULES as usize];
         rules[0] = Rule::from(first);
         rules[1] = Rule::from(second);
@@ -65,7 +70,10 @@ pub fn whole(out: &impl Print, list: &RuleList) -> io::Result<()> {
 }
 
 // The list with the rule behind its others; as it was, where it has no room.
-pub fn with(list: RuleList, rule: T) -> RuleList {
+pub fn with(list: RuleList, rule: T) -> RuleList
+    ensures room { list.len < max_rules → result.len ≡ list.len + 1 }
+    ensures full { max_rules ≤ list.len → result ≡ list }
+{
     let mut rules = list.rules;
     match rules.get_mut(list.len as usize) {
         Some(slot) => {
@@ -80,10 +88,15 @@ pub fn with(list: RuleList, rule: T) -> RuleList {
 }
 
 // The list of these rules, as many as it has room for.
-pub fn list_of(rules: &[T]) -> RuleList {
-    let none = RuleList {
+pub fn list_of(rules: &[T]) -> RuleList
+    ensures { result.len ≡ min (length rules.now) max_rules }
+{
+    let mut list = RuleList {
         rules: [Rule::from(NONE); RuleList::MAX_RULES as usize],
         len: 0,
     };
-    rules.iter().fold(none, |list, rule| with(list, *rule))
+    for rule in rules {
+        list = with(list, *rule);
+    }
+    list
 }

@@ -45,7 +45,7 @@ pub fn run(out: &impl Print, heading: &str) -> io::Result<()> {
     println!(out; "{heading}")?;
     for rules in &CASES {
         print!(out; "{rules}")?;
-        answers::checked(out, rules.list().check())?;
+        answers::checked(out, RuleList::from(*rules).check())?;
     }
     Ok(())
 }

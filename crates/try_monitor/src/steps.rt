@@ -60,7 +60,7 @@ pub fn run(out: &impl Print, heading: &str, cases: &[Case]) -> io::Result<()> {
             state: *state,
             count: *count,
         };
-        answers::step(out, monitor, monitor.step(rules.list(), *zone))?;
+        answers::step(out, monitor, monitor.step(RuleList::from(*rules), *zone))?;
     }
     Ok(())
 }
@@ -100,5 +100,5 @@ pub fn example(out: &impl Print, heading: &str) -> io::Result<()> {
 pub fn readings_with(out: &impl Print, heading: &str, rules: Rules, rs: &[i32]) -> io::Result<()> {
     println!(out; "{heading}")?;
     println!(out; "{rules}")?;
-    readings(out, rules.list(), rs)
+    readings(out, rules.into(), rs)
 }

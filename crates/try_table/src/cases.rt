@@ -73,7 +73,7 @@ fn one(out: &impl Print, case: Case) -> io::Result<()> {
     print!(out; "{rules} weights, horizon and places ")?;
     print!(out; "{w0},{w1},{w2},{w4},{horizon},{pmf},{survival}")?;
     let weights = [w0, w1, w2, 0, w4, 0, 0, 0];
-    answers::table_of(out, rules.list(), weights, horizon, places)
+    answers::table_of(out, rules.into(), weights, horizon, places)
 }
 
 pub fn run(out: &impl Print, cases: &[Case]) -> io::Result<()> {

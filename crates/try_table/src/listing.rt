@@ -10,7 +10,7 @@ pub fn rows(out: &impl Print, heading: &str, rules: Rules) -> io::Result<()> {
     let mut survival = [8u64; 6];
     println!(out; "{heading}")?;
     print!(out; "{rules}")?;
-    let answer = table::run_length_table(rules.list(), HALVES, 4, &mut pmf, &mut survival);
+    let answer = table::run_length_table(rules.into(), HALVES, 4, &mut pmf, &mut survival);
     answers::answer(out, answer)?;
     for (n, (p, s)) in (1..).zip(pmf.iter().zip(&survival)) {
         println!(out; "{n},{p},{s}")?;
