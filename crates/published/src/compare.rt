@@ -1,37 +1,31 @@
 // A published figure beside ours, and the count of those that are met.
-use crate::decimal;
-use std::io;
+use crate::decimal::Decimal;
+use std::{fmt, io};
 
-#[derive(Clone, Copy)]
+#[derive(Drop)]
 pub struct Tally {
     pub figures: u64,
     pub met: u64,
 }
 
 impl Tally {
-    fn add(self, met: u64) -> Tally {
-        Tally {
-            figures: std::num::wrapping_add_u64(self.figures, 1),
-            met: std::num::wrapping_add_u64(self.met, met),
-        }
+    // A line for a figure of a chart; ours is in units of the last decimal place that is printed in the source, and 0 where it is no single number.
+    pub fn figure(
+        &mut self,
+        out: &impl Print,
+        chart: &impl fmt::Display,
+        kind: &str,
+        ours: Option<u64>,
+        published: Decimal,
+    ) -> io::Result<()> {
+        let met = ours == Some(published.units);
+        self.figures = self.figures.saturating_add(1);
+        self.met = self.met.saturating_add(u64::from(met));
+        let ours = Decimal {
+            units: ours.unwrap_or(0),
+            places: published.places,
+        };
+        print!(out; "{chart}: {kind} {ours} published {published} ")?;
+        println!(out; "{}", if met { "met" } else { "not met" })
     }
-}
-
-// Ends a line that begins with the chart's name. Both figures are in units of the last decimal place that is printed in the source.
-pub fn figure(
-    out: &impl Print,
-    tally: Tally,
-    kind: &[u8],
-    ours: u64,
-    published: u64,
-    places: u32,
-) -> io::Result<Tally> {
-    decimal::print(out, kind, ours, places)?;
-    decimal::print(out, b" published ", published, places)?;
-    if ours == published {
-        show::text(out, b" met\n")?;
-        return Ok(tally.add(1));
-    }
-    show::text(out, b" not met\n")?;
-    Ok(tally.add(0))
 }

@@ -2,7 +2,7 @@
 ghost use Rattle.std.specs.Prelude.{◌≤◌};
 
 use runlength::UNITS_PER_ONE;
-use std::io;
+use std::fmt;
 
 // The fraction is in units of 2^-60.
 #[derive(Clone, Copy)]
@@ -11,59 +11,52 @@ pub struct Exact {
     pub fraction: u64,
 }
 
-impl Exact {
-    // No run length compared here, in any of its decimal units, comes near it.
-    const WHOLE_LIMIT: u64 = 1 << 32;
-
-    fn ten_times(self) -> Exact {
-        let shifted = self.fraction % UNITS_PER_ONE * 10;
-        Exact {
-            whole: self.whole % Exact::WHOLE_LIMIT * 10 + shifted / UNITS_PER_ONE,
-            fraction: shifted % UNITS_PER_ONE,
-        }
-    }
-
-    // The nearest whole number; a half goes up.
-    fn rounded(self) -> u64 {
-        if self.fraction < UNITS_PER_ONE / 2 {
-            return self.whole;
-        }
-        self.whole % Exact::WHOLE_LIMIT + 1
-    }
-
-    // The number in units of the last of so many decimal places.
-    pub fn in_places(self, places: u32) -> u64 {
-        let mut scaled = self;
-        for _ in 0..places {
-            scaled = scaled.ten_times();
-        }
-        scaled.rounded()
-    }
+// So many units of the last of up to 5 decimal places.
+#[derive(Clone, Copy)]
+pub struct Decimal {
+    pub units: u64,
+    pub places: u32,
 }
 
 // 10 to a power up to 5.
 fn ten_to(power: u32) -> u64
-    ensures { 1 ≤ result }
+    ensures positive { 1 ≤ result }
+    ensures bound { result ≤ 100000 }
 {
-    match power {
-        0 => 1,
-        1 => 10,
-        2 => 100,
-        3 => 1000,
-        4 => 10000,
-        _ => 100000,
+    10u64.pow(power.min(5))
+}
+
+impl Exact {
+    // No run length compared here, in any of its decimal units, comes near it.
+    const WHOLE_LIMIT: u64 = 1 << 32;
+
+    // The number in units of the last of so many decimal places, to the nearest; a half goes up.
+    pub fn in_places(self, places: u32) -> u64 {
+        let one = u128::from(UNITS_PER_ONE);
+        let exact = u128::from(self.whole % Exact::WHOLE_LIMIT) * one + u128::from(self.fraction);
+        let scaled = exact * u128::from(ten_to(places));
+        ((scaled + one / 2) / one) as u64
     }
 }
 
-// Prints n units of the last of up to 5 decimal places.
-pub fn print(out: &impl Print, before: &[u8], n: u64, places: u32) -> io::Result<()> {
-    show::number(out, before, n / ten_to(places))?;
-    if places == 0 {
-        return Ok(());
+impl Decimal {
+    pub fn whole(units: u64) -> Decimal {
+        Decimal { units, places: 0 }
     }
-    show::text(out, b".")?;
-    for left in (0..places).rev() {
-        show::number(out, b"", n / ten_to(left) % 10)?;
+}
+
+impl fmt::Display for Decimal {
+    fn fmt<W: fmt::Write>(&self, f: &mut fmt::Formatter<W>) -> fmt::Result {
+        let one = ten_to(self.places);
+        let whole = self.units / one;
+        if self.places == 0 {
+            return write!(f, "{whole}");
+        }
+        write!(
+            f,
+            "{whole}.{:0width$}",
+            self.units % one,
+            width = self.places as usize
+        )
     }
-    Ok(())
 }

@@ -14,11 +14,9 @@ use compare::Tally;
 use std::io;
 
 fn main(rt: HostRuntime) -> io::Result<()> {
-    let start = Tally { figures: 0, met: 0 };
-    let after_001 = source001::tables(&rt, start)?;
-    let after_002 = source002::table(&rt, after_001)?;
-    let all = source004::examples(&rt, after_002)?;
-    show::number(&rt, b"", all.figures)?;
-    show::number(&rt, b" figures, ", all.met)?;
-    show::text(&rt, b" met\n")
+    let mut tally = Tally { figures: 0, met: 0 };
+    source001::tables(&rt, &mut tally)?;
+    source002::table(&rt, &mut tally)?;
+    source004::examples(&rt, &mut tally)?;
+    println!(&rt; "{} figures, {} met", tally.figures, tally.met)
 }

@@ -4,115 +4,141 @@
 // How the weights were made: from the normal law at the limits that the source prints, which it has rounded to two decimals. The shifted
 // mean signals below -5.24 or above 0.76; a p chart where all five of a sample are below -1.17 or above 1.17, and, shifted, below -2.17 or
 // above 0.17. The probability of S times 2^30 is rounded to the nearest whole number, and the rest is in one zone that no rule looks at.
-ghost use Rattle.std.specs.Prelude.{◌<◌};
-
 use crate::compare::Tally;
-use crate::decimal::Exact;
-use crate::{compare, figures, source002};
+use crate::decimal::Decimal;
+use crate::figures;
 use rules::{RuleList, ZONES};
-use show::lists::narrow;
-use std::io;
+use show::IN_CONTROL;
+use show::lists::{T, list_of};
+use std::{fmt, io};
 
-const CHARTS: usize = 5;
+#[derive(Clone, Copy)]
+enum Rules {
+    // A point in S.
+    OutsideLimits,
+    WesternElectric,
+}
 
-// Where the four Western Electric rules stand among the charts; the others have the one rule that a point is in S.
-const FOUR_RULES: usize = 2;
+// Of the four rules no probability is printed. The horizon goes by the mean that is given for it.
+struct Example {
+    name: &'static str,
+    rules: Rules,
+    weights: [u32; ZONES],
+    probability: Option<Decimal>,
+    mean: Decimal,
+    horizon_mean: u64,
+}
 
-// Example 15-1 in control and shifted, the Western Electric rules in control, example 15-2 in control and shifted: the probability of a
-// signal and the mean run length, both in units of the last decimal place and with the number of places; and the mean that the horizon goes
-// by. Of the four rules no probability is printed.
-const PUBLISHED: [[u64; 5]; CHARTS] = [
-    [27, 4, 370, 0, 370],
-    [2236, 4, 45, 1, 5],
-    [0, 0, 92, 0, 92],
-    [83, 5, 1205, 0, 1205],
-    [179, 4, 56, 0, 56],
+static EXAMPLES: [Example; 5] = [
+    Example {
+        name: "004 example 15-1 in control",
+        rules: Rules::OutsideLimits,
+        weights: IN_CONTROL,
+        probability: Some(Decimal {
+            units: 27,
+            places: 4,
+        }),
+        mean: Decimal {
+            units: 370,
+            places: 0,
+        },
+        horizon_mean: 370,
+    },
+    Example {
+        name: "004 example 15-1 shifted",
+        rules: Rules::OutsideLimits,
+        weights: [240118063, 0, 0, 833623761, 0, 0, 0, 0],
+        probability: Some(Decimal {
+            units: 2236,
+            places: 4,
+        }),
+        mean: Decimal {
+            units: 45,
+            places: 1,
+        },
+        horizon_mean: 5,
+    },
+    Example {
+        name: "004 Western Electric in control",
+        rules: Rules::WesternElectric,
+        weights: IN_CONTROL,
+        probability: None,
+        mean: Decimal {
+            units: 92,
+            places: 0,
+        },
+        horizon_mean: 92,
+    },
+    Example {
+        name: "004 example 15-2 in control",
+        rules: Rules::OutsideLimits,
+        weights: [891221, 0, 0, 1072850603, 0, 0, 0, 0],
+        probability: Some(Decimal {
+            units: 83,
+            places: 5,
+        }),
+        mean: Decimal {
+            units: 1205,
+            places: 0,
+        },
+        horizon_mean: 1205,
+    },
+    Example {
+        name: "004 example 15-2 shifted",
+        rules: Rules::OutsideLimits,
+        weights: [19271090, 0, 0, 1054470734, 0, 0, 0, 0],
+        probability: Some(Decimal {
+            units: 179,
+            places: 4,
+        }),
+        mean: Decimal {
+            units: 56,
+            places: 0,
+        },
+        horizon_mean: 56,
+    },
 ];
 
-fn published(i: usize) -> [u64; 5]
-    requires { i < 5 }
-{
-    PUBLISHED[i]
-}
-
-// The weight of S, and the rest in C1.
-fn two_zones(signal: u32, rest: u32) -> [u32; ZONES] {
-    [signal, 0, 0, rest, 0, 0, 0, 0]
-}
-
-fn weights(i: usize) -> [u32; ZONES] {
-    match i {
-        1 => two_zones(240118063, 833623761),
-        3 => two_zones(891221, 1072850603),
-        4 => two_zones(19271090, 1054470734),
-        _ => source002::in_control(),
+impl Rules {
+    fn list(self) -> RuleList {
+        match self {
+            Rules::OutsideLimits => list_of(&[T(1, 1, 1)]),
+            Rules::WesternElectric => RuleList::western_electric(),
+        }
     }
 }
 
-fn rules_of(i: usize) -> RuleList {
-    if i == FOUR_RULES {
-        return RuleList::western_electric();
-    }
-    figures::outside_limits()
-}
-
-fn name(out: &impl Print, i: usize) -> io::Result<()> {
-    match i {
-        0 => show::text(out, b"004 example 15-1 in control"),
-        1 => show::text(out, b"004 example 15-1 shifted"),
-        2 => show::text(out, b"004 Western Electric in control"),
-        3 => show::text(out, b"004 example 15-2 in control"),
-        _ => show::text(out, b"004 example 15-2 shifted"),
+impl fmt::Display for Example {
+    fn fmt<W: fmt::Write>(&self, f: &mut fmt::Formatter<W>) -> fmt::Result {
+        write!(f, "{}", self.name)
     }
 }
 
-fn line(
-    out: &impl Print,
-    tally: Tally,
-    i: usize,
-    kind: &[u8],
-    ours: Exact,
-    units: u64,
-    places: u64,
-) -> io::Result<Tally> {
-    name(out, i)?;
-    compare::figure(
+fn lines(out: &impl Print, tally: &mut Tally, example: &Example) -> io::Result<()> {
+    let horizon = figures::horizon_for(example.horizon_mean);
+    let f = figures::of_chart(example.rules.list(), example.weights, horizon);
+    if let Some(p) = example.probability {
+        tally.figure(
+            out,
+            example,
+            "probability",
+            f.map(|f| f.first.in_places(p.places)),
+            p,
+        )?;
+    }
+    let mean = example.mean;
+    tally.figure(
         out,
-        tally,
-        kind,
-        ours.in_places(narrow(places)),
-        units,
-        narrow(places),
+        example,
+        "arl",
+        f.map(|f| f.mean.in_places(mean.places)),
+        mean,
     )
 }
 
-fn probability(
-    out: &impl Print,
-    tally: Tally,
-    i: usize,
-    ours: Exact,
-    units: u64,
-    places: u64,
-) -> io::Result<Tally> {
-    if i == FOUR_RULES {
-        return Ok(tally);
+pub fn examples(out: &impl Print, tally: &mut Tally) -> io::Result<()> {
+    for example in &EXAMPLES {
+        lines(out, tally, example)?;
     }
-    line(out, tally, i, b": probability ", ours, units, places)
-}
-
-fn chart(out: &impl Print, tally: Tally, i: usize) -> io::Result<Tally>
-    requires { i < 5 }
-{
-    let p = published(i);
-    let f = figures::of_chart(rules_of(i), weights(i), figures::horizon_for(p[4]));
-    let t1 = probability(out, tally, i, f.first, p[0], p[1])?;
-    line(out, t1, i, b": arl ", f.mean, p[2], p[3])
-}
-
-pub fn examples(out: &impl Print, tally: Tally) -> io::Result<Tally> {
-    let mut all = tally;
-    for i in 0..CHARTS {
-        all = chart(out, all, i)?;
-    }
-    Ok(all)
+    Ok(())
 }

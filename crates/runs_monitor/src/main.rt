@@ -1,14 +1,15 @@
 // The monitor program: a text on standard input; on standard output a line for each of its points, and a total for each node.
 #![tactic(auto)]
 
+use monitor_report::{MONITOR_SIZE, monitor_output};
 use output::Failure;
-use text::MAX_TEXT;
 
-// One byte more than the longest text is read, so that a longer one is told. Where a read fails nothing is printed.
 fn main(rt: HostRuntime) -> Result<(), Failure> {
-    let mut text = [0u8; MAX_TEXT + 1];
-    let n = output::read_input(&mut rt.stdin(), &mut text).map_err(Failure::Input)?;
-    let mut out = [0u8; monitor_report::MONITOR_SIZE];
-    let m = monitor_report::monitor_output(&text[..n], &mut out);
-    output::lines(&mut rt.stdout(), &out[..m]).map_err(Failure::Output)
+    let mut report = [0u8; MONITOR_SIZE];
+    output::run(
+        &mut rt.stdin(),
+        &mut rt.stdout(),
+        &mut report,
+        |text, report| monitor_output(text, report),
+    )
 }

@@ -2,13 +2,14 @@
 #![tactic(auto)]
 
 use output::Failure;
-use text::MAX_TEXT;
+use weights_report::{WEIGHTS_SIZE, weights_output};
 
-// One byte more than the longest text is read, so that a longer one is told. Where a read fails nothing is printed.
 fn main(rt: HostRuntime) -> Result<(), Failure> {
-    let mut text = [0u8; MAX_TEXT + 1];
-    let n = output::read_input(&mut rt.stdin(), &mut text).map_err(Failure::Input)?;
-    let mut out = [0u8; weights_report::WEIGHTS_SIZE];
-    let m = weights_report::weights_output(&text[..n], &mut out);
-    output::lines(&mut rt.stdout(), &out[..m]).map_err(Failure::Output)
+    let mut report = [0u8; WEIGHTS_SIZE];
+    output::run(
+        &mut rt.stdin(),
+        &mut rt.stdout(),
+        &mut report,
+        |text, report| weights_output(text, report),
+    )
 }

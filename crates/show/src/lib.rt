@@ -1,34 +1,19 @@
-// Printing words, numbers, rule lists and refusals, for the test programs.
+// What the test programs share: the rule lists and the weights of their cases, and how a refusal is printed.
 #![tactic(auto)]
 
-use rules::Refusal;
+use rules::{Refusal, ZONES};
 use std::io;
 
 pub mod lists;
 
-pub fn text(out: &impl Print, words: &[u8]) -> io::Result<()> {
-    out.write_all(words)
-}
+// The normal area of each zone in units of 2^-30, to the nearest; S is what is missing from 2^30, and C0 has none.
+pub const IN_CONTROL: [u32; ZONES] = [
+    2898884, 22978326, 145927014, 366516130, 366516130, 145927014, 22978326, 0,
+];
 
-pub fn number(out: &impl Print, before: &[u8], n: u64) -> io::Result<()> {
-    text(out, before)?;
-    out.print(n)
-}
-
-// The numbers with commas between them; where there are none, nothing.
-pub fn numbers(out: &impl Print, before: &[u8], ns: &[u64]) -> io::Result<()> {
-    if ns.len() == 0 {
-        return Ok(());
-    }
-    number(out, before, ns[0])?;
-    for i in 1..ns.len() {
-        number(out, b",", ns[i])?;
-    }
-    Ok(())
-}
+// Half the points in zone 1, half in zone 4.
+pub const HALVES: [u32; ZONES] = [0, 536870912, 0, 0, 536870912, 0, 0, 0];
 
 pub fn refusal(out: &impl Print, r: Refusal) -> io::Result<()> {
-    number(out, b" refused ", r.number as u64)?;
-    number(out, b" place ", r.place as u64)?;
-    text(out, b"\n")
+    println!(out; " refused {} place {}", r.number(), r.place())
 }

@@ -1,56 +1,102 @@
-// Rule lists in rows of numbers.
-use crate::{number, text};
-use rules::{Rule, RuleList};
-use std::io;
+// Rule lists, as tables of cases write them.
+ghost use Rattle.std.specs.Prelude.{◌≡◌, ◌+◌, ◌≤◌, ◌<◌, length, min};
+ghost use Rattle.rules.specs.Bounds.{max_rules};
 
-// A number of a row as one of 32 bits.
-pub fn narrow(n: u64) -> u32 {
-    (n % 4294967296) as u32
+use rules::{Rule, RuleList};
+use std::{fmt, io};
+
+// Document 01's T(k,m,Z).
+#[derive(Clone, Copy)]
+pub struct T(pub u32, pub u32, pub u32);
+
+// What stands in a slot that no case looks at.
+pub const NONE: T = T(0, 0, 0);
+
+#[derive(Clone, Copy)]
+pub enum Rules {
+    One(T),
+    Two(T, T),
+    // What stands in the first slot, in the second and in the six others, and how many rules count.
+    Slots(T, T, T, u32),
 }
 
-// The rule that three numbers of a row are.
-pub fn rule_of(k: u64, m: u64, zones: u64) -> Rule {
-    Rule {
-        k: narrow(k),
-        m: narrow(m),
-        zones: narrow(zones),
+impl From<T> for Rule {
+    fn from(t: T) -> Rule {
+        Rule::new(t.0, t.1, t.2)
     }
 }
 
-fn rule(out: &impl Print, r: Rule) -> io::Result<()> {
-    number(out, b" ", r.k as u64)?;
-    number(out, b",", r.m as u64)?;
-    number(out, b",", r.zones as u64)
+impl fmt::Display for T {
+    fn fmt<W: fmt::Write>(&self, f: &mut fmt::Formatter<W>) -> fmt::Result {
+        write!(f, "{},{},{}", self.0, self.1, self.2)
+    }
 }
 
-pub fn whole(out: &impl Print, l: RuleList) -> io::Result<()> {
-    number(out, b" len ", l.len as u64)?;
-    let rules = l.rules;
-    for i in 0..RuleList::MAX_RULES as usize {
-        rule(out, rules[i])?;
+impl Rules {
+    // As `Slots` has them.
+    fn slots(self) -> (T, T, T, u32) {
+        match self {
+            Rules::One(first) => (first, NONE, NONE, 1),
+            Rules::Two(first, second) => (first, second, NONE, 2),
+            Rules::Slots(first, second, others, len) => (first, second, others, len),
+        }
+    }
+}
+
+impl From<Rules> for RuleList {
+    fn from(rules: Rules) -> RuleList {
+        let (first, second, others, len) = rules.slots();
+        let mut rules = [Rule::from(others); RuleList::MAX_RULES as usize];
+        rules[0] = Rule::from(first);
+        rules[1] = Rule::from(second);
+        RuleList { rules, len }
+    }
+}
+
+impl fmt::Display for Rules {
+    fn fmt<W: fmt::Write>(&self, f: &mut fmt::Formatter<W>) -> fmt::Result {
+        let (first, second, others, len) = self.slots();
+        write!(f, "len {len} {first} {second} and 6 of {others}")
+    }
+}
+
+// Prints all slots of a list.
+pub fn whole(out: &impl Print, list: &RuleList) -> io::Result<()> {
+    print!(out; " len {}", list.len)?;
+    for rule in &list.rules {
+        print!(out; " {},{},{}", rule.k, rule.m, rule.zones)?;
     }
     Ok(())
 }
 
-// Prints and gives the list that a row begins with: k, m and the zones of the first rule and of the second, and how
-// many rules count. The six other slots hold the rule given. A row of fewer than seven numbers gives no rules.
-pub fn listed(out: &impl Print, row: &[u64], other: Rule) -> io::Result<RuleList> {
-    if row.len() < 7 {
-        return Ok(RuleList {
-            rules: [other; RuleList::MAX_RULES as usize],
-            len: 0,
-        });
+// The list with the rule behind its others; as it was, where it has no room.
+pub fn with(list: RuleList, rule: T) -> RuleList
+    ensures room { list.len < max_rules → result.len ≡ list.len + 1 }
+    ensures full { max_rules ≤ list.len → result ≡ list }
+{
+    let mut rules = list.rules;
+    match rules.get_mut(list.len as usize) {
+        Some(slot) => {
+            *slot = Rule::from(rule);
+            RuleList {
+                rules,
+                len: list.len + 1,
+            }
+        }
+        None => list,
     }
-    let first = rule_of(row[0], row[1], row[2]);
-    let second = rule_of(row[3], row[4], row[5]);
-    let len = narrow(row[6]);
-    number(out, b"len ", len as u64)?;
-    rule(out, first)?;
-    rule(out, second)?;
-    text(out, b" and 6 of")?;
-    rule(out, other)?;
-    let mut rules = [other; RuleList::MAX_RULES as usize];
-    rules[0] = first;
-    rules[1] = second;
-    Ok(RuleList { rules, len })
+}
+
+// The list of these rules, as many as it has room for.
+pub fn list_of(rules: &[T]) -> RuleList
+    ensures { result.len ≡ min (length rules.now) max_rules }
+{
+    let mut list = RuleList {
+        rules: [Rule::from(NONE); RuleList::MAX_RULES as usize],
+        len: 0,
+    };
+    for rule in rules {
+        list = with(list, *rule);
+    }
+    list
 }

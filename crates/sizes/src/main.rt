@@ -2,7 +2,6 @@
 // the Rust crate with these lines.
 #![tactic(auto)]
 
-mod arrays;
 mod bounds;
 mod lists;
 mod refusals;
@@ -10,15 +9,11 @@ mod refusals;
 use std::io;
 
 fn main(rt: HostRuntime) -> io::Result<()> {
-    bounds::rules(&rt)?;
-    bounds::charts(&rt)?;
-    bounds::texts(&rt)?;
-    arrays::sizes(&rt)?;
-    arrays::zones(&rt)?;
-    refusals::monitor(&rt)?;
-    refusals::table(&rt)?;
-    refusals::bracket(&rt)?;
-    refusals::texts(&rt)?;
-    lists::western_electric(&rt)?;
-    lists::duncan(&rt)
+    for (name, value) in &bounds::BOUNDS {
+        println!(&rt; "{name},{value}")?;
+    }
+    for (name, refusal) in &refusals::REFUSALS {
+        println!(&rt; "{name},{}", refusal.number())?;
+    }
+    lists::ready(&rt)
 }

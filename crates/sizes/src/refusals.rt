@@ -1,35 +1,28 @@
-// The refusals' numbers.
-use crate::bounds::line;
+// The refusals, each by the name of its number.
 use rules::Refusal;
-use std::io;
 
-pub fn monitor(out: &impl Print) -> io::Result<()> {
-    line(out, b"BAD_SIGMA,", Refusal::SIGMA as u64)?;
-    line(out, b"BAD_RULE_COUNT,", Refusal::RULE_COUNT as u64)?;
-    line(out, b"BAD_RULE,", Refusal::RULE_BOUNDS as u64)?;
-    line(out, b"BAD_ZONE_SET,", Refusal::ZONE_SET as u64)?;
-    line(out, b"BAD_STATE,", Refusal::STATE as u64)?;
-    line(out, b"BAD_ZONE,", Refusal::ZONE as u64)?;
-    line(out, b"BAD_COUNT,", Refusal::COUNT as u64)
-}
-
-pub fn table(out: &impl Print) -> io::Result<()> {
-    line(out, b"BAD_WEIGHTS,", Refusal::WEIGHTS as u64)?;
-    line(out, b"BAD_HORIZON,", Refusal::HORIZON as u64)?;
-    line(out, b"TOO_MANY_STATES,", Refusal::STATES as u64)?;
-    line(out, b"SHORT_LIST,", Refusal::SHORT_LIST as u64)
-}
-
-pub fn bracket(out: &impl Print) -> io::Result<()> {
-    line(out, b"BAD_LIST,", Refusal::LIST_LENGTH as u64)?;
-    line(out, b"BAD_N,", Refusal::STATE_COUNT as u64)?;
-    line(out, b"BAD_PERCENT,", Refusal::PERCENT as u64)?;
-    line(out, b"BAD_CHANCES,", Refusal::TOTAL as u64)
-}
-
-pub fn texts(out: &impl Print) -> io::Result<()> {
-    line(out, b"BAD_LINE,", Refusal::LINE as u64)?;
-    line(out, b"LONG_TEXT,", Refusal::TEXT_SIZE as u64)?;
-    line(out, b"BAD_SHIFT,", Refusal::SHIFT as u64)?;
-    line(out, b"BAD_NODE,", Refusal::NODE as u64)
-}
+pub static REFUSALS: [(&str, Refusal); 19] = [
+    // Of the monitor.
+    ("BAD_SIGMA", Refusal::Sigma),
+    ("BAD_RULE_COUNT", Refusal::RuleCount),
+    ("BAD_RULE", Refusal::RuleBounds(0)),
+    ("BAD_ZONE_SET", Refusal::ZoneSet(0)),
+    ("BAD_STATE", Refusal::State),
+    ("BAD_ZONE", Refusal::Zone),
+    ("BAD_COUNT", Refusal::Count),
+    // Of the table.
+    ("BAD_WEIGHTS", Refusal::Weights),
+    ("BAD_HORIZON", Refusal::Horizon),
+    ("TOO_MANY_STATES", Refusal::States(0)),
+    ("SHORT_LIST", Refusal::ShortList),
+    // Of the bracket.
+    ("BAD_LIST", Refusal::ListLength),
+    ("BAD_N", Refusal::StateCount),
+    ("BAD_PERCENT", Refusal::Percent),
+    ("BAD_CHANCES", Refusal::Total),
+    // Of the texts.
+    ("BAD_LINE", Refusal::Line(0)),
+    ("LONG_TEXT", Refusal::TextSize),
+    ("BAD_SHIFT", Refusal::Shift),
+    ("BAD_NODE", Refusal::Node(0)),
+];

@@ -1,38 +1,33 @@
 // Batches that are taken.
-use crate::lists::{batch, pair};
+use crate::answers::batch;
 use monitor::Monitor;
-use rules::{Rule, RuleList};
+use rules::RuleList;
+use show::lists::{T, list_of};
 use std::io;
 
-// The third reading signals, by the rule with index 2; the fourth is not taken.
-pub fn signal_at_third(out: &impl Print) -> io::Result<()> {
+pub fn western_electric(out: &impl Print) -> io::Result<()> {
+    println!(out; "Western Electric")?;
     let list = RuleList::western_electric();
+    let fresh = Monitor::fresh();
+    // The third reading signals, by the rule with index 2; the fourth is not taken.
     batch(
         out,
-        b"121, 100, 121, 121:",
+        "121, 100, 121, 121",
         list,
-        Monitor::fresh(),
+        fresh,
         10,
         &[121, 100, 121, 121],
-    )
-}
-
-// Both are quiet: rules 2 and 4 remember the first; rule 6 forgets it, since the second is on the centre line.
-pub fn all_taken(out: &impl Print) -> io::Result<()> {
-    let list = RuleList::western_electric();
-    batch(out, b"121, 100:", list, Monitor::fresh(), 10, &[121, 100])
-}
-
-// The first of two readings fills the count, and the second is not taken.
-pub fn full_at_second(out: &impl Print) -> io::Result<()> {
-    let list = RuleList::western_electric();
+    )?;
+    // Both are quiet: rules 2 and 4 remember the first; rule 6 forgets it, since the second is on the centre line.
+    batch(out, "121, 100", list, fresh, 10, &[121, 100])?;
+    // The first of two readings fills the count, and the second is not taken.
     let nearly = Monitor {
         state: 0,
         count: 4294967294,
     };
     batch(
         out,
-        b"101, 90, one point before the last:",
+        "101, 90, one point before the last",
         list,
         nearly,
         10,
@@ -40,7 +35,7 @@ pub fn full_at_second(out: &impl Print) -> io::Result<()> {
     )?;
     batch(
         out,
-        b"101, one point before the last:",
+        "101, one point before the last",
         list,
         nearly,
         10,
@@ -50,21 +45,9 @@ pub fn full_at_second(out: &impl Print) -> io::Result<()> {
 
 // 2,2,6 and 2,3,6 hold together at the second point.
 pub fn two_rules(out: &impl Print) -> io::Result<()> {
-    let list = pair(Rule::new(2, 2, 6), Rule::new(2, 3, 6), 2);
-    batch(
-        out,
-        b"121, 111:",
-        list,
-        Monitor::fresh(),
-        10,
-        &[121, 111, 100],
-    )?;
-    batch(
-        out,
-        b"121, 100, 111:",
-        list,
-        Monitor::fresh(),
-        10,
-        &[121, 100, 111],
-    )
+    println!(out; "two rules at once")?;
+    let list = list_of(&[T(2, 2, 6), T(2, 3, 6)]);
+    let fresh = Monitor::fresh();
+    batch(out, "121, 111", list, fresh, 10, &[121, 111, 100])?;
+    batch(out, "121, 100, 111", list, fresh, 10, &[121, 100, 111])
 }

@@ -2,24 +2,17 @@
 // it prints is compared with the file `stdout`.
 #![tactic(auto)]
 
+mod answers;
 mod batches;
-mod lists;
 mod refusals;
 
 use std::io;
 
 fn main(rt: HostRuntime) -> io::Result<()> {
-    show::text(&rt, b"Western Electric\n")?;
-    batches::signal_at_third(&rt)?;
-    batches::all_taken(&rt)?;
-    batches::full_at_second(&rt)?;
-    show::text(&rt, b"two rules at once\n")?;
+    batches::western_electric(&rt)?;
     batches::two_rules(&rt)?;
-    show::text(&rt, b"no readings\n")?;
     refusals::no_readings(&rt)?;
     refusals::no_readings_refused(&rt)?;
-    show::text(&rt, b"one reading\n")?;
     refusals::one_reading(&rt)?;
-    show::text(&rt, b"the order 2, 3, 4, 1, 5, 7\n")?;
     refusals::order(&rt)
 }

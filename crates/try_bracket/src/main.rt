@@ -3,15 +3,17 @@
 #![tactic(auto)]
 
 mod answers;
-mod lists;
-mod refusals;
+mod cases;
 mod tables;
 
 use std::io;
 
 fn main(rt: HostRuntime) -> io::Result<()> {
-    lists::short_lists(&rt)?;
-    refusals::refusals(&rt)?;
+    println!(&rt; "short lists")?;
+    cases::run(&rt, &cases::SHORT)?;
+    println!(&rt; "refusals")?;
+    cases::lengths(&rt)?;
+    cases::run(&rt, &cases::REFUSALS)?;
     tables::listing(&rt)?;
     tables::western_electric(&rt)
 }

@@ -1,75 +1,63 @@
 // The ready lists and the check of a list.
-ghost use Rattle.std.specs.Prelude.{◌<◌};
-
 use crate::answers;
 use rules::RuleList;
 use show::lists;
+use show::lists::Rules::{One, Slots, Two};
+use show::lists::{NONE, Rules, T};
 use std::io;
 
-const ALL: usize = 24;
+const WIDEST: T = T(9, 9, 255);
 
-// A list, in a row as `show` takes it; and k, m and the zones of the six rules after the first two.
-const CASES: [[u64; 10]; ALL] = [
+static CASES: [Rules; 24] = [
     // The bounds of the length.
-    [9, 9, 255, 9, 9, 255, 0, 9, 9, 255],
-    [9, 9, 255, 9, 9, 255, 1, 9, 9, 255],
-    [9, 9, 255, 9, 9, 255, 8, 9, 9, 255],
-    [9, 9, 255, 9, 9, 255, 9, 9, 9, 255],
-    [9, 9, 255, 9, 9, 255, 4294967295, 9, 9, 255],
+    Slots(WIDEST, WIDEST, WIDEST, 0),
+    Slots(WIDEST, WIDEST, WIDEST, 1),
+    Slots(WIDEST, WIDEST, WIDEST, 8),
+    Slots(WIDEST, WIDEST, WIDEST, 9),
+    Slots(WIDEST, WIDEST, WIDEST, 4294967295),
     // The bounds of k.
-    [0, 1, 1, 0, 0, 0, 1, 0, 0, 0],
-    [1, 1, 1, 0, 0, 0, 1, 0, 0, 0],
-    [2, 1, 1, 0, 0, 0, 1, 0, 0, 0],
-    [9, 9, 1, 0, 0, 0, 1, 0, 0, 0],
-    [10, 9, 1, 0, 0, 0, 1, 0, 0, 0],
+    One(T(0, 1, 1)),
+    One(T(1, 1, 1)),
+    One(T(2, 1, 1)),
+    One(T(9, 9, 1)),
+    One(T(10, 9, 1)),
     // The bounds of m.
-    [1, 0, 1, 0, 0, 0, 1, 0, 0, 0],
-    [1, 10, 1, 0, 0, 0, 1, 0, 0, 0],
-    [10, 10, 1, 0, 0, 0, 1, 0, 0, 0],
-    [4294967295, 4294967295, 1, 0, 0, 0, 1, 0, 0, 0],
-    [0, 0, 0, 0, 0, 0, 1, 0, 0, 0],
+    One(T(1, 0, 1)),
+    One(T(1, 10, 1)),
+    One(T(10, 10, 1)),
+    One(T(4294967295, 4294967295, 1)),
+    One(T(0, 0, 0)),
     // The bounds of the zones.
-    [1, 1, 0, 0, 0, 0, 1, 0, 0, 0],
-    [1, 1, 128, 0, 0, 0, 1, 0, 0, 0],
-    [1, 1, 255, 0, 0, 0, 1, 0, 0, 0],
-    [1, 1, 256, 0, 0, 0, 1, 0, 0, 0],
-    [1, 1, 4294967295, 0, 0, 0, 1, 0, 0, 0],
+    One(T(1, 1, 0)),
+    One(T(1, 1, 128)),
+    One(T(1, 1, 255)),
+    One(T(1, 1, 256)),
+    One(T(1, 1, 4294967295)),
     // The second rule out of bounds; with no zone; out of bounds behind a first one with no zone.
-    [2, 3, 2, 3, 2, 2, 2, 0, 0, 0],
-    [2, 3, 2, 2, 3, 0, 2, 0, 0, 0],
-    [2, 3, 0, 3, 2, 2, 2, 0, 0, 0],
+    Two(T(2, 3, 2), T(3, 2, 2)),
+    Two(T(2, 3, 2), T(2, 3, 0)),
+    Two(T(2, 3, 0), T(3, 2, 2)),
     // A bad slot beyond the length.
-    [2, 3, 2, 0, 0, 0, 1, 0, 0, 0],
+    Slots(T(2, 3, 2), NONE, NONE, 1),
 ];
 
-fn case_at(i: usize) -> [u64; 10]
-    requires { i < 24 }
-{
-    CASES[i]
-}
-
-fn one(out: &impl Print, case: [u64; 10]) -> io::Result<()> {
-    let other = lists::rule_of(case[7], case[8], case[9]);
-    answers::checked(out, lists::listed(out, &case, other)?.check())
-}
-
-pub fn run(out: &impl Print, heading: &[u8]) -> io::Result<()> {
-    show::text(out, heading)?;
-    for i in 0..ALL {
-        one(out, case_at(i))?;
+pub fn run(out: &impl Print, heading: &str) -> io::Result<()> {
+    println!(out; "{heading}")?;
+    for rules in &CASES {
+        print!(out; "{rules}")?;
+        answers::checked(out, RuleList::from(*rules).check())?;
     }
     Ok(())
 }
 
-fn ready(out: &impl Print, l: RuleList) -> io::Result<()> {
-    lists::whole(out, l)?;
-    answers::checked(out, l.check())
+fn ready(out: &impl Print, name: &str, list: RuleList) -> io::Result<()> {
+    print!(out; "{name}")?;
+    lists::whole(out, &list)?;
+    answers::checked(out, list.check())
 }
 
-pub fn ready_lists(out: &impl Print, heading: &[u8]) -> io::Result<()> {
-    show::text(out, heading)?;
-    show::text(out, b"Western Electric")?;
-    ready(out, RuleList::western_electric())?;
-    show::text(out, b"Duncan")?;
-    ready(out, RuleList::duncan())
+pub fn ready_lists(out: &impl Print, heading: &str) -> io::Result<()> {
+    println!(out; "{heading}")?;
+    ready(out, "Western Electric", RuleList::western_electric())?;
+    ready(out, "Duncan", RuleList::duncan())
 }

@@ -1,27 +1,18 @@
 // The zone of a reading.
-ghost use Rattle.std.specs.Prelude.{◌≤◌, ◌<◌};
-
 use crate::answers;
-use monitor::zone::zone_of;
+use monitor::Chart;
 use std::io;
 
 // A reading, the centre line, sigma.
 #[derive(Clone, Copy)]
-struct Case(i32, i32, u32);
+pub struct Case(i32, i32, u32);
 
 const LOWEST: i32 = -2147483648;
 
 const HIGHEST: i32 = 2147483647;
 
-// Where a group of cases ends and the next begins.
-pub const EXAMPLES: usize = 13;
-
-pub const EXTREMES: usize = 31;
-
-pub const ALL: usize = 36;
-
-const CASES: [Case; ALL] = [
-    // Document 01's examples.
+// Document 01's.
+pub static EXAMPLES: [Case; 13] = [
     Case(131, 100, 10),
     Case(130, 100, 10),
     Case(120, 100, 10),
@@ -35,6 +26,9 @@ const CASES: [Case; ALL] = [
     Case(79, 100, 10),
     Case(70, 100, 10),
     Case(69, 100, 10),
+];
+
+pub static EXTREMES: [Case; 18] = [
     // As far apart as can be.
     Case(HIGHEST, LOWEST, 1),
     Case(HIGHEST, LOWEST, 65535),
@@ -56,7 +50,10 @@ const CASES: [Case; ALL] = [
     Case(-2147483644, LOWEST, 1),
     Case(2147483644, HIGHEST, 1),
     Case(2147483643, HIGHEST, 1),
-    // The bounds of sigma.
+];
+
+// The bounds of sigma.
+pub static SIGMAS: [Case; 5] = [
     Case(0, 0, 0),
     Case(0, 0, 1),
     Case(0, 0, 65535),
@@ -64,25 +61,15 @@ const CASES: [Case; ALL] = [
     Case(0, 0, 4294967295),
 ];
 
-fn case_at(i: usize) -> Case
-    requires { i < 36 }
-{
-    CASES[i]
-}
-
-fn one(out: &impl Print, c: Case) -> io::Result<()> {
-    answers::signed(out, b"", c.0)?;
-    answers::signed(out, b" on ", c.1)?;
-    show::number(out, b" sigma ", c.2 as u64)?;
-    answers::zoned(out, zone_of(c.0, c.1, c.2))
-}
-
-pub fn run(out: &impl Print, heading: &[u8], from: usize, to: usize) -> io::Result<()>
-    requires { to ≤ 36 }
-{
-    show::text(out, heading)?;
-    for i in from..to {
-        one(out, case_at(i))?;
+pub fn run(out: &impl Print, heading: &str, cases: &[Case]) -> io::Result<()> {
+    println!(out; "{heading}")?;
+    for Case(reading, centre, sigma) in cases {
+        print!(out; "{reading} on {centre} sigma {sigma}")?;
+        let chart = Chart {
+            centre: *centre,
+            sigma: *sigma,
+        };
+        answers::zoned(out, chart.zone_of(*reading))?;
     }
     Ok(())
 }

@@ -1,69 +1,42 @@
 // Printing a plot record, doubles as bit patterns.
-use plot::{BoxPlotAnswer, PlotItem, PlotRecord};
+use plot::{PlotItem, PlotRecord};
+use rules::Refusal;
 use std::io;
 
 // A number's bit pattern; what is no number, which no record holds, would print as 0.
 fn bits(x: f64) -> u64 {
-    if x == x { f64::to_bits(x) } else { 0 }
+    if x.is_nan() { 0 } else { x.to_bits() }
 }
 
-fn double(out: &impl Print, x: f64) -> io::Result<()> {
-    show::text(out, b" ")?;
-    let pattern = bits(x);
-    print!(out; "{pattern:016x}")
-}
-
-fn item(out: &impl Print, name: &[u8], i: PlotItem) -> io::Result<()> {
-    show::text(out, name)?;
-    match i {
-        PlotItem::Point(x) => {
-            show::text(out, b" point")?;
-            double(out, x)?;
-        }
-        PlotItem::Span(x, y) => {
-            show::text(out, b" span")?;
-            double(out, x)?;
-            double(out, y)?;
-        }
-        PlotItem::Open(x) => {
-            show::text(out, b" open")?;
-            double(out, x)?;
-        }
-        PlotItem::Beyond(x) => {
-            show::text(out, b" beyond")?;
-            double(out, x)?;
-        }
+fn item(out: &impl Print, percent: u32, item: PlotItem) -> io::Result<()> {
+    print!(out; "{percent}")?;
+    match item {
+        PlotItem::Point(x) => println!(out; " point {:016x}", bits(x)),
+        PlotItem::Span(x, y) => println!(out; " span {:016x} {:016x}", bits(x), bits(y)),
+        PlotItem::Open(x) => println!(out; " open {:016x}", bits(x)),
+        PlotItem::Beyond(x) => println!(out; " beyond {:016x}", bits(x)),
     }
-    show::text(out, b"\n")
 }
 
 fn record(out: &impl Print, r: PlotRecord) -> io::Result<()> {
-    let p5 = r.p5;
-    item(out, b"5", p5)?;
-    let p25 = r.p25;
-    item(out, b"25", p25)?;
-    let p50 = r.p50;
-    item(out, b"50", p50)?;
-    let p75 = r.p75;
-    item(out, b"75", p75)?;
-    let p95 = r.p95;
-    item(out, b"95", p95)?;
-    show::text(out, b"lower")?;
-    double(out, r.lower)?;
-    show::text(out, b" upper")?;
-    double(out, r.upper)?;
-    show::text(out, b" quartile difference")?;
-    double(out, r.iqr)?;
-    if r.has_iqr {
-        show::text(out, b" held\n")
-    } else {
-        show::text(out, b" none\n")
+    let items = [
+        (5, r.p5),
+        (25, r.p25),
+        (50, r.p50),
+        (75, r.p75),
+        (95, r.p95),
+    ];
+    for (percent, found) in items {
+        item(out, percent, found)?;
     }
+    print!(out; "lower {:016x} upper {:016x}", bits(r.lower), bits(r.upper))?;
+    print!(out; " quartile difference {:016x}", bits(r.iqr))?;
+    println!(out; " {}", if r.has_iqr { "held" } else { "none" })
 }
 
-pub fn answer(out: &impl Print, a: BoxPlotAnswer) -> io::Result<()> {
-    match a {
-        BoxPlotAnswer::Accepted(r) => { record(out, r) }
-        BoxPlotAnswer::Refused(r) => { show::refusal(out, r) }
+pub fn answer(out: &impl Print, answer: Result<PlotRecord, Refusal>) -> io::Result<()> {
+    match answer {
+        Ok(r) => record(out, r),
+        Err(r) => show::refusal(out, r),
     }
 }

@@ -8,14 +8,9 @@ mod records;
 use std::io;
 
 fn main(rt: HostRuntime) -> io::Result<()> {
-    show::text(&rt, b"the listing\n")?;
     records::listing(&rt)?;
-    show::text(&rt, b"Western Electric in control, 1000 points\n")?;
     records::western_electric(&rt)?;
-    show::text(&rt, b"Duncan in control, 1000 points\n")?;
     records::duncan(&rt)?;
-    show::text(&rt, b"one point\n")?;
     records::one_point(&rt)?;
-    show::text(&rt, b"refused as the table\n")?;
     records::refused(&rt)
 }

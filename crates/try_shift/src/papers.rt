@@ -1,43 +1,29 @@
 // The normal areas that sources 001 and 004 print, to four decimals.
-use crate::weights::in_control;
+use rules::ZoneWeights;
+use shift::{area_at, shift_weights};
 use std::io;
 
-// How many ten thousandths a chance in units of 2^-30 is, to the nearest.
-fn ten_thousandths(units: u32) -> u64 {
-    (units as u64 * 10000 + 536870912) / 1073741824
+// The printed figure in ten thousandths, beside ours of two zones together, to the nearest.
+fn figure(out: &impl Print, name: &str, printed: u64, zones: [u32; 2]) -> io::Result<()> {
+    let units = u64::from(zones[0]) + u64::from(zones[1]);
+    let ours = (units * 10000 + 536870912) / 1073741824;
+    let met = if ours == printed { "met" } else { "not met" };
+    println!(out; "{name}: {printed} ours {ours} {met}")
 }
 
-fn figure(out: &impl Print, name: &[u8], printed: u64, units: u32) -> io::Result<()> {
-    let ours = ten_thousandths(units);
-    show::number(out, name, printed)?;
-    show::number(out, b" ours ", ours)?;
-    if ours == printed {
-        show::text(out, b" met\n")
-    } else {
-        show::text(out, b" not met\n")
-    }
+fn figures_of(out: &impl Print, w: ZoneWeights) -> io::Result<()> {
+    figure(out, "source 001, S", 27, [w.s, 0])?;
+    figure(out, "source 001, A", 428, [w.a1, w.a2])?;
+    figure(out, "source 001, B", 2718, [w.b1, w.b2])?;
+    figure(out, "source 001, C", 6827, [w.c1, w.c2])?;
+    let beyond = 536870912u32.saturating_sub(area_at(76));
+    figure(out, "source 004, beyond 0.76", 2236, [beyond, 0])
 }
 
-// Either zone of a pair.
-fn pair(a: u32, b: u32) -> u32 {
-    (a % 1073741824) + (b % 1073741824)
-}
-
-// Beyond z hundredths above the mean.
-fn beyond(area: u32) -> u32 {
-    536870912 - area % 536870912
-}
-
+// Of a core that is not shifted.
 pub fn figures(out: &impl Print) -> io::Result<()> {
-    let w = in_control();
-    figure(out, b"source 001, S: ", 27, w.s)?;
-    figure(out, b"source 001, A: ", 428, pair(w.a1, w.a2))?;
-    figure(out, b"source 001, B: ", 2718, pair(w.b1, w.b2))?;
-    figure(out, b"source 001, C: ", 6827, pair(w.c1, w.c2))?;
-    figure(
-        out,
-        b"source 004, beyond 0.76: ",
-        2236,
-        beyond(shift::area_at(76)),
-    )
+    match shift_weights(0) {
+        Ok(w) => figures_of(out, w),
+        Err(r) => show::refusal(out, r),
+    }
 }

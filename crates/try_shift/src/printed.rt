@@ -1,11 +1,7 @@
 // A printed table of the normal distribution. docs/DECISIONS.md says where it is printed.
-ghost use Rattle.std.specs.Prelude.{◌<◌};
-
-// The last hundredth of both tables.
-pub const LAST: usize = 450;
 
 // For z from 0.00 to 4.50: the printed chance of a normal reading up to z, in units of 10^-12.
-const PRINTED: [u64; LAST + 1] = [
+pub static PRINTED: [u64; 451] = [
     500000000000,
     503989356315,
     507978313717,
@@ -458,9 +454,3 @@ const PRINTED: [u64; LAST + 1] = [
     999996438841,
     999996602327,
 ];
-
-pub fn printed_at(z: usize) -> u64
-    requires { z < 451 }
-{
-    PRINTED[z]
-}

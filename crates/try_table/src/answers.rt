@@ -1,18 +1,33 @@
 // Printing answers.
+use rules::{Refusal, RuleList, ZONES};
 use std::io;
-use table::{TableAnswer, TableFigures};
+use table::TableFigures;
 
-fn figures(out: &impl Print, f: TableFigures) -> io::Result<()> {
-    show::number(out, b" states ", f.state_count as u64)?;
-    show::number(out, b" left ", f.survival)?;
-    show::number(out, b" mean ", f.mean_whole)?;
-    show::number(out, b" and ", f.mean_fraction)?;
-    show::text(out, b"\n")
+// Ends a line with the figures, or with the refusal.
+pub fn answer(out: &impl Print, answer: Result<TableFigures, Refusal>) -> io::Result<()> {
+    match answer {
+        Ok(f) => {
+            print!(out; " states {} left {}", f.state_count, f.survival)?;
+            println!(out; " mean {} and {}", f.mean_whole, f.mean_fraction)
+        }
+        Err(r) => show::refusal(out, r),
+    }
 }
 
-pub fn answer(out: &impl Print, a: TableAnswer) -> io::Result<()> {
-    match a {
-        TableAnswer::Accepted(f) => figures(out, f),
-        TableAnswer::Refused(r) => show::refusal(out, r),
-    }
+// The table of a list with so many places for the pmf and for the survival, up to 65,535.
+pub fn table_of(
+    out: &impl Print,
+    list: RuleList,
+    weights: [u32; ZONES],
+    horizon: u32,
+    places: (usize, usize),
+) -> io::Result<()> {
+    let mut pmf = [0u64; 65535];
+    let mut survival = [0u64; 65535];
+    let p = places.0.min(pmf.len());
+    let s = places.1.min(survival.len());
+    answer(
+        out,
+        table::run_length_table(list, weights, horizon, &mut pmf[..p], &mut survival[..s]),
+    )
 }

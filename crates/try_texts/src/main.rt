@@ -25,21 +25,18 @@ fn open<R: Files>(rt: &R, path: &[u8]) -> Option<R::File> {
 }
 
 fn named(rt: &(impl Files + Print), path: &[u8]) -> io::Result<()> {
-    show::text(rt, path)?;
-    show::text(rt, b"\n")?;
+    rt.write_all(path)?;
+    println!(rt)?;
     match open(rt, path) {
         Some(mut file) => opened(rt, path, &mut file),
-        None => show::text(rt, b"cannot be opened\n"),
+        None => println!(rt; "cannot be opened"),
     }
 }
 
 // The texts that the list names, in its order.
 fn texts(rt: &(impl Files + Print), list: &[u8]) -> io::Result<()> {
-    let mut at = 0;
-    while at < list.len() {
-        let end = bytes::line_end(list, at);
-        named(rt, &list[at..end])?;
-        at = end + 1;
+    for line in list.split_inclusive(|byte| *byte == b'\n') {
+        named(rt, line.strip_suffix(b"\n").unwrap_or(line))?;
     }
     Ok(())
 }
@@ -53,6 +50,6 @@ fn listed<F: Read>(rt: &(impl Files + Print), file: &mut F) -> io::Result<()> {
 fn main(rt: HostRuntime) -> io::Result<()> {
     match open(&rt, b"list") {
         Some(mut file) => listed(&rt, &mut file),
-        None => show::text(&rt, b"no list\n"),
+        None => println!(&rt; "no list"),
     }
 }

@@ -1,30 +1,29 @@
 // What each program prints for a text: the whole of it or, where it is long, its start, its end and what tells whether the rest is right.
+ghost use Rattle.std.specs.Prelude.{ℕ, ◌≤◌, length};
+
 use crate::bytes;
+use monitor_report::{MONITOR_SIZE, monitor_output};
+use std::convert::AsSlice;
 use std::io;
+use table_report::{TABLE_SIZE, table_output};
+use weights_report::{WEIGHTS_SIZE, weights_output};
 
 // The most bytes that are shown whole, and the first and the last lines that are shown of more.
 const WHOLE: usize = 400;
 
-const FIRST: u32 = 3;
+const FIRST: usize = 3;
 
-const LAST: u32 = 6;
-
-fn measure(out: &impl Print, report: &[u8]) -> io::Result<()> {
-    show::number(out, b".. bytes ", report.len() as u64)?;
-    show::number(out, b" checksum ", bytes::checksum(report))?;
-    show::text(out, b" ..\n")
-}
+const LAST: usize = 6;
 
 fn lines(out: &impl Print, report: &[u8]) -> io::Result<()> {
     output::lines(&mut io::writer(out), report)
 }
 
 fn ends(out: &impl Print, report: &[u8]) -> io::Result<()> {
-    let first = bytes::head(report, FIRST);
-    let last = bytes::tail(report, LAST);
-    lines(out, &report[..first])?;
-    measure(out, report)?;
-    lines(out, &report[last..])
+    lines(out, &report[..bytes::line_end(report, FIRST - 1)])?;
+    let checksum = bytes::checksum(report);
+    println!(out; ".. bytes {} checksum {checksum} ..", report.len())?;
+    lines(out, &report[bytes::tail(report, LAST)..])
 }
 
 fn written(out: &impl Print, report: &[u8]) -> io::Result<()> {
@@ -35,39 +34,31 @@ fn written(out: &impl Print, report: &[u8]) -> io::Result<()> {
     }
 }
 
-fn table(out: &impl Print, text: &[u8]) -> io::Result<()> {
-    let mut report = [0u8; table_report::TABLE_SIZE];
-    let len = table_report::table_output(text, &mut report);
-    written(out, &report[..len])
+// The report that a call leaves at the buffer's start.
+fn reported<B: AsSlice<u8>, F: FnOnce(&[u8], &mut B) -> usize>(
+    out: &impl Print,
+    text: &[u8],
+    buf: &mut B,
+    report: F,
+) -> io::Result<()>
+    requires callable { F.IsAlwaysCallable report }
+    requires bound { (t : _) (b : _) (n : ℕ) (b' : _) → F.post report t b n b' → n ≤ length (B.items b'.now) }
+{
+    let n = report(text, buf);
+    written(out, &buf.as_slice()[..n])
 }
 
-fn monitor(out: &impl Print, text: &[u8]) -> io::Result<()> {
-    let mut report = [0u8; monitor_report::MONITOR_SIZE];
-    let len = monitor_report::monitor_output(text, &mut report);
-    written(out, &report[..len])
-}
-
-fn weights(out: &impl Print, text: &[u8]) -> io::Result<()> {
-    let mut report = [0u8; weights_report::WEIGHTS_SIZE];
-    let len = weights_report::weights_output(text, &mut report);
-    written(out, &report[..len])
-}
-
-// A path's first byte; 0 where it has none.
-fn initial(path: &[u8]) -> u8 {
-    if path.len() == 0 {
-        return 0;
-    }
-    path[0]
-}
-
+// By the path's first letter.
 pub fn report_by(out: &impl Print, path: &[u8], text: &[u8]) -> io::Result<()> {
-    let first = initial(path);
-    if first == b't' {
-        table(out, text)
-    } else if first == b'w' {
-        weights(out, text)
-    } else {
-        monitor(out, text)
+    match path.first() {
+        Some(b't') => reported(out, text, &mut [0; TABLE_SIZE], |text, buf| {
+            table_output(text, buf)
+        }),
+        Some(b'w') => reported(out, text, &mut [0; WEIGHTS_SIZE], |text, buf| {
+            weights_output(text, buf)
+        }),
+        _ => reported(out, text, &mut [0; MONITOR_SIZE], |text, buf| {
+            monitor_output(text, buf)
+        }),
     }
 }
