@@ -8,7 +8,7 @@ use Rattle.rules.specs.declared.RuleList.{RuleList}
 use Rattle.rules.specs.declared.refusal.Refusal.{Refusal}
 use Rattle.rules.specs.Bounds.{zone_count, max_number, max_states}
 use Rattle.rules.specs.Refusal.{number_of, bad_state, bad_count, too_many_states, short_list}
-use Rattle.rules.specs.Check.{Checked, or_else, unless, active_rules, check_of}
+use Rattle.rules.specs.Check.{or_else, unless, active_rules, check_of}
 use Rattle.rules.proofs.CheckLaws.{accepted}
 use Rattle.rules.specs.InBounds.{AllInBounds}
 use Rattle.runlength.specs.Scale.{min_horizon, max_horizon, weight_total}

@@ -131,4 +131,3 @@ shift s =
         ≡ unless b bad_shift
     as_test true = refl
     as_test false = refl
-

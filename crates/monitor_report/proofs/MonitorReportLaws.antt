@@ -5,10 +5,9 @@ use Rattle.std.proofs.Math.Path.{refl}
 use mathlib.Core.List.{List, [], ◌∷◌, ◌++◌}
 use Rattle.std.proofs.Common.{arith}
 use Rattle.std.proofs.Math.ListN.{length, length-append}
-use borrow.Author.Tests.{eq-eqb, ne_eqb}
 use Rattle.rules.specs.declared.RuleList.{RuleList}
 use Rattle.rules.specs.declared.refusal.Refusal.{Refusal}
-use Rattle.rules.specs.Check.{Checked, active_rules, check_of, within}
+use Rattle.rules.specs.Check.{active_rules, check_of, within}
 use Rattle.rules.proofs.CheckLaws.{accepted}
 use Rattle.rules.specs.Refusal.{bad_sigma}
 use Rattle.monitor.specs.Zone.{min_sigma, max_sigma}

@@ -13,7 +13,7 @@ use Rattle.monitor_text.specs.declared.monitors.MonitorText.{MonitorText}
 use Rattle.monitor_text.specs.Readings.{OnBench, bench_points}
 use Rattle.monitor_text.specs.ReadingsLaws.{all_bench, bench_all}
 use Rattle.monitor_text.specs.MonitorGrammar.{chart_line, point_line, monitor_grammar, points_said}
-use Rattle.monitor_text.specs.MonitorText.{points_at, bench_or, points_in, monitor_of, monitor_text, monitor_points}
+use Rattle.monitor_text.specs.MonitorText.{points_at, bench_or, points_in, monitor_of, monitor_text}
 use Rattle.monitor_text.specs.ReadMonitor.{read_monitor, points_from}
 use Rattle.monitor_text.specs.MonitorTextLaws.{points_begin}
 

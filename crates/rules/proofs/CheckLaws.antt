@@ -1,6 +1,6 @@
 -- Laws of the check: rule by rule, and what an accepted list has.
 use Rattle.std.specs.Prelude.{◌≡◌, refl, Bool, true, false, cond, List, [], ◌∷◌, ℕ, suc, ◌+◌, ◌-◌, ◌≤◌, ◌<◌, get_or, leb, Err, Ok}
-use Rattle.std.proofs.Common.{sym, ◌∙◌, arith, leb-true}
+use Rattle.std.proofs.Common.{arith, leb-true}
 use Rattle.rules.specs.declared.Rule.{Rule}
 use Rattle.rules.specs.declared.RuleList.{RuleList}
 use Rattle.rules.specs.declared.refusal.Refusal.{Refusal}

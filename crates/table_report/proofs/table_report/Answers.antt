@@ -2,7 +2,7 @@
 use Rattle.std.proofs.Common.{rules, ◌≡◌, sym, ◌∙◌, Err}
 use Rattle.table.specs.Table.{table_call}
 use Rattle.table_report.specs.TableReport.{blank}
-use Rattle.table_report.specs.TableReportLaws.{horizon_small, rows_listed, rows_total, text_refused, table_refused, table_written}
+use Rattle.table_report.specs.TableReportLaws.{rows_total, text_refused, table_refused, table_written}
 use Rattle.table_report.proofs.table_report.Goals as goal
 
 pub returns-in_err-read : goal.returns-in_err-read

@@ -1,5 +1,5 @@
 -- `points::put_points` meets its contract. The invariant: the points charted and written, each node as its own points left it, and what is left to read.
-use mathlib.Core.Path.{◌≡◌, refl, ◌∙◌}
+use mathlib.Core.Path.{refl, ◌∙◌}
 use mir.Syntax.{w32}
 use native.Mathlib.Omega.{arith}
 use borrow.Author.Rules.{rules}
