@@ -1,5 +1,4 @@
-// A chart: what a reading is measured by.
-// A chart's centre and sigma (document 01's step d).
+// A chart, what a reading is measured by: its centre and sigma (document 01's step d).
 #[derive(Clone, Copy)]
 pub struct Chart {
     pub centre: i32,

@@ -28,7 +28,7 @@ fn band_of(sigma: u32, distance: u64, one: u32, two: u32, three: u32) -> u32
     requires { sigma ≤ max_sigma }
     ensures { result ≡ band sigma distance one two three }
 {
-    let width = sigma as u64;
+    let width = u64::from(sigma);
     if distance <= width {
         return one;
     }

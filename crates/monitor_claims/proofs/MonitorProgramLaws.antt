@@ -110,7 +110,7 @@ monitor_program s = go (monitor_text s) (monitor_reading s) (λ c d rs ps i o. (
   where
     go : (t : Result MonitorText Refusal) → MonitorReading s t
         → ((c : ℤ) (d : ℕ) (rs : List Rule) (ps : List NodeReading) → MonitorTextIs s c d rs ps → OnBench ps → points_in s t ≡ ps)
-        → MonitorProgram s (printed_bytes (printed_by (monitor_check t) (bench_of s t)))
+        → MonitorProgram s (printed_bytes (printed_by (monitor_check t) (bench_of t (points_in s t))))
     go t (too_long_lem l) f = monitor-refuses 17 0 refl (monitor_too_long l)
     go t (stopped place l st) f = monitor-refuses 16 place refl (monitor-bad-line place l st)
     go t (off_bench c d rs place o) f = monitor-refuses 19 place refl (bad_node_lem c d rs place o)

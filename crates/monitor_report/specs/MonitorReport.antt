@@ -9,7 +9,8 @@ use Rattle.monitor.specs.Step.{fresh_monitor}
 use Rattle.window.specs.ReferenceChart.{Answer}
 use Rattle.monitor.specs.Calls.{monitor_answers}
 use Rattle.monitor_text.specs.declared.monitors.MonitorText.{MonitorText}
-use Rattle.monitor_text.specs.MonitorText.{monitor_text, points_at}
+use Rattle.monitor_text.specs.Readings.{NodeReading}
+use Rattle.monitor_text.specs.MonitorText.{monitor_text, monitor_points}
 use Rattle.write.specs.Printed.{Printed, printed_by}
 use Rattle.monitor_report.specs.Points.{bench_bytes}
 use Rattle.monitor.specs.Zones.{zones_of}
@@ -24,9 +25,9 @@ monitor_check (Ok t) = or_else (check_of t.list) (unless (within min_sigma max_s
 monitor_check (Err x) = Err x
 
 -- what was read: a refusal, or its points, each on the chart of its node
-abbrev pub bench_of : List ℕ → Result MonitorText Refusal → List ℕ
-bench_of s (Ok t) = bench_bytes (reading_answers t.list t.centre t.sigma) (points_at s t.points)
-bench_of s (Err x) = []
+abbrev pub bench_of : Result MonitorText Refusal → List NodeReading → List ℕ
+bench_of (Ok t) points = bench_bytes (reading_answers t.list t.centre t.sigma) points
+bench_of (Err x) points = []
 
 unfoldable pub monitor_printed : List ℕ → Printed
-monitor_printed s = printed_by (monitor_check (monitor_text s)) (bench_of s (monitor_text s))
+monitor_printed s = printed_by (monitor_check (monitor_text s)) (bench_of (monitor_text s) (monitor_points s))
