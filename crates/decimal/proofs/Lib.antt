@@ -1,3 +1,3 @@
 mod Digit
-mod Letter
 mod Sign
+mod Starts

@@ -6,15 +6,10 @@ ghost use Rattle.decimal.specs.Word.{word_at};
 pub fn past(text: &[u8], at: usize, word: &[u8]) -> Option<usize>
     ensures { result ≡ word_at word.now text.now at }
 {
-    let mut i = at;
-    for byte in word {
-        if text.len() <= i {
-            return None;
-        }
-        if text[i] != *byte {
-            return None;
-        }
-        i += 1;
+    let rest = text.get(at..).unwrap_or(&[]);
+    if rest.starts_with(word) {
+        Some(at + word.len())
+    } else {
+        None
     }
-    Some(i)
 }
