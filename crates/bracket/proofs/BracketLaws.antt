@@ -1,10 +1,11 @@
 -- Laws of the percentile bracket: what an accepted call answers, and how the two bounds stand to each other.
 use Rattle.std.specs.Prelude.{◌≡◌, refl, Bool, true, false, cond, List, ℕ, ◌+◌, ◌*◌, ◌≤◌, ◌<◌, T, eqb, length, Ok, Option, Some, None}
-use Rattle.std.proofs.Common.{mul-le-mul, arith, leb→le, eqb→eq, le-leb}
+use Rattle.std.proofs.Math.Path.{ap, ap₂}
+use Rattle.std.proofs.Common.{◌∙◌, mul-le-mul, arith, leb→le, eqb→eq, le-leb, eq-eqb, ne_eqb}
 use Rattle.std.proofs.Math.Dec.{lt→ltb}
 use Rattle.runlength.specs.Percentile.{least, Percentile, Contains}
 use Rattle.runlength.proofs.PercentileLaws.{least_none, least_percentile, contains_exact}
-use Rattle.bracket.specs.declared.Bracket.TheVariants.{At, Between}
+use Rattle.bracket.specs.declared.Bracket.TheVariants.{At, Between, Open, Beyond}
 use Rattle.runlength.specs.Scale.{units_per_one, percents_per_one}
 use Rattle.runlength.specs.Chain.{cdf_of}
 use Rattle.bracket.specs.Bracket.{reaches, passes, high_test, low_test, bracket_by, percentile_bracket, bracket_of}
@@ -28,6 +29,28 @@ by_contains test h (Some l) (Some u) c = go (eqb l u) (eqb→eq l u)
     go : (b : Bool) → (T b → l ≡ u) → BracketContains test (cond b (At l) (Between l u))
     go true e = contains_exact test h l u (e tt) c
     go false e = c
+
+-- the bracket by the two bounds, case by case
+module _ {low : Option ℕ} (high : Option ℕ) (h : ℕ) where
+  pub by_neither : low ≡ None → bracket_by low high h ≡ Beyond h
+  unfolding bracket_by
+  by_neither p = ap (λ (o : Option ℕ). bracket_by o high h) p
+
+  module _ {l : ℕ} (at_low : low ≡ Some l) where
+    pub by_low : high ≡ None → bracket_by low high h ≡ Open l
+    unfolding bracket_by
+    by_low q = ap₂ (λ (o p : Option ℕ). bracket_by o p h) at_low q
+
+    module _ {u : ℕ} (at_high : high ≡ Some u) where
+      by_both : bracket_by low high h ≡ cond (eqb l u) (At l) (Between l u)
+      unfolding bracket_by
+      by_both = ap₂ (λ (o p : Option ℕ). bracket_by o p h) at_low at_high
+
+      pub by_equal : l ≡ u → bracket_by low high h ≡ At l
+      by_equal e = by_both ∙ ap (λ (b : Bool). cond b (At l) (Between l u)) (eq-eqb l u e)
+
+      pub by_unequal : (l ≡ u → ⊥) → bracket_by low high h ≡ Between l u
+      by_unequal e = by_both ∙ ap (λ (b : Bool). cond b (At l) (Between l u)) (ne_eqb l u e)
 
 -- with anything added, what was reached is passed
 over : (a x s : ℕ) → a ≤ percents_per_one * x → 1 ≤ s → a < percents_per_one * (x + s)

@@ -103,7 +103,7 @@ module _ (n : ℕ) (l : List ℕ) (fits : n ≤ length l) where
 -- ---- by the leaders of all continuations
 
 module _ {n : ℕ} {m l : List ℕ} (p : HoldsLeaders n m l n) where
-  leaders_led : (i : ℕ) → i < n → Led l i
+  pub leaders_led : (i : ℕ) → i < n → Led l i
   leaders_led i h =
       let most = leader_most (given_automaton n m) n i in
       record {
@@ -114,7 +114,7 @@ module _ {n : ℕ} {m l : List ℕ} (p : HoldsLeaders n m l n) where
   pub number_of : n ≤ max_states → length l ≡ n → Numberable l
   number_of few e = record { few = rw e few; led = rw e leaders_led }
 
-  led_leaders : (i : ℕ) → i ≤ n → lead_before (at l) i ≡ leaders_for (given_automaton n m) n i
+  pub led_leaders : (i : ℕ) → i ≤ n → lead_before (at l) i ≡ leaders_for (given_automaton n m) n i
   led_leaders i h = lead_cong (at l) (leader_for (given_automaton n m) n) i (λ j k. p.is j (omega arith))
 
   module _ {c : Classes} (long : length l ≡ n) (numbered : Numbered l c (length l)) where

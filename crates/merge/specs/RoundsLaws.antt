@@ -54,9 +54,17 @@ module _ {n : ℕ} {m l : List ℕ} {k : ℕ} (few : n ≤ max_states) (p : Hold
         ∙ (leader_lowest (given_automaton n m) (suc k) i).miss j (omega (arith, p.is i h, leader_later (given_automaton n m) k i));
   }
 
+  -- a leader never comes before the one so far
+  pub next_later : (i : ℕ) → i < n → at l i ≤ next_leader n m l i
+  next_later i h = omega (arith, next_leader_lem i, p.is i h, leader_later (given_automaton n m) k i)
+
+  -- nor after its state
+  pub next_most : (i : ℕ) → next_leader n m l i ≤ i
+  next_most i = omega (arith, next_leader_lem i, leader_most (given_automaton n m) (suc k) i)
+
   module _ (next : List ℕ) (e : (i : ℕ) → i < n → at next i ≡ next_leader n m l i) where
     -- what the next round leaves
-    next_holds : HoldsLeaders n m next (k + 1)
+    pub next_holds : HoldsLeaders n m next (k + 1)
     next_holds = record { is = λ i h. rw (add-one k) (e i h ∙ next_leader_lem i) }
 
     -- where no leader has moved, these are the leaders by as many points as there are states

@@ -37,6 +37,10 @@ none_below p long e = go (ltb p long) refl e
     go true q e = absurd (none-some p e)
     go false q e = ltb-false p long q
 
+-- the index of a state among the first n is at most n
+pub index_small : {j : ℕ} (t n : ℕ) (f : List ℕ) → n ≤ length f → j ≡ index_of t (take n f) → j ≤ n
+index_small t n f h q = omega (arith, index_le t (take n f), length-take-le n f h)
+
 module _ (t n : ℕ) (f : List ℕ) (fits : n ≤ length f) where
   pub index_found : {j : ℕ} → Some j ≡ position (λ s. eqb s t) (take n f) → (j ≡ index_of t (take n f)) × (j < n)
   index_found {j} e =

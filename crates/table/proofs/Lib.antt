@@ -1,4 +1,5 @@
 -- The laws of the definitions in specs/.
 pub mod ChainCheckLaws
+pub mod ChainCheckedLaws
 pub mod TableLaws
 pub mod AcceptedTableLaws
