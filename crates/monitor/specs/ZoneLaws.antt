@@ -1,10 +1,16 @@
 -- Laws of the zone of an offset, and of the zone of a reading by sigma.
-use Rattle.std.specs.Prelude.{◌≡◌, refl, Bool, true, false, cond, ℕ, zero, suc, ◌*◌, ◌<◌, ℤ, pos, negsuc, ◌-ℤ◌, ◌<ℤ◌, int_lt, unsigned_abs, leb, Err, Ok}
-use Rattle.std.proofs.Common.{arith, ltb-true, ne_of_lt}
+use Rattle.std.specs.Prelude.{◌≡◌, refl, Bool, true, false, cond, ℕ, zero, suc, ◌+◌, ◌-◌, ◌*◌, ◌<◌, ◌^◌, ℤ, pos, negsuc, ◌+ℤ◌, ◌-ℤ◌, ◌<ℤ◌, int_lt, unsigned_abs, leb, Err, Ok}
+use Rattle.std.proofs.Common.{arith, ltb-true, ne_of_lt, le-ltb}
+use Rattle.std.specs.Int.Signed.{mag}
 use Rattle.rules.specs.Bounds.{zone_count}
 use Rattle.rules.specs.Check.{within}
 use Rattle.rules.specs.Refusal.{bad_sigma}
 use Rattle.monitor.specs.Zone.{min_sigma, max_sigma, zone_s, zone_a1, zone_b1, zone_c1, zone_c2, zone_b2, zone_a2, zone_c0, band, zone_at, zone_of}
+
+-- a signed number of 32 bits, 2^31 higher, is no number below 0
+pub raised : (z : ℤ) → mag z < 2 ^ 31 → (n : ℕ) × (z +ℤ pos 2147483648 ≡ pos n) × (n < 2 ^ 32)
+raised (pos a) h = (a + 2147483648, refl, omega arith)
+raised (negsuc a) h = (2147483648 - suc a, rw (le-ltb 2147483648 (suc a) (omega arith)), omega arith)
 
 -- ---- the zone by the offset from the centre: below it, above it, and on it
 

@@ -1,5 +1,5 @@
 -- Laws of one row.
-use Rattle.std.specs.Prelude.{◌≡◌, List, ℕ, ◌+◌, ◌*◌, ◌/◌, ◌%◌, ◌≤◌, ◌<◌, length, get_or}
+use Rattle.std.specs.Prelude.{◌≡◌, List, ℕ, ◌+◌, ◌-◌, ◌*◌, ◌/◌, ◌%◌, ◌≤◌, ◌<◌, length, get_or}
 use Rattle.std.proofs.Common.{sym, ap, ◌∙◌, arith, get_or-set_same, get_or-set_other, below_more}
 use Rattle.runlength.specs.Sum.{sum, at}
 use Rattle.runlength.specs.SumLaws.{sum_zero, sum_more, sum_upto}
@@ -7,7 +7,7 @@ use Rattle.runlength.specs.Scale.{weight_total}
 use Rattle.sources.specs.Sources.{come}
 use Rattle.next_row.specs.Arrivals.{Flows, Arrived}
 use Rattle.next_row.specs.ArrivalsLaws.{flows_upto}
-use Rattle.next_row.specs.OneRow.{CanRound, Rounded, Filled, CanFill, CanRow}
+use Rattle.next_row.specs.OneRow.{CanRound, Rounded, Filled, CanFill, CanRow, RowDone, PointDone}
 
 pub fill_start : (us src fs ws gs nx : List ℕ) → Filled us src fs ws gs 0 nx 0 0
 fill_start us src fs ws gs nx = record {
@@ -44,8 +44,16 @@ module _ {us src fs ws gs : List ℕ} {n t high low left rest : ℕ} {nx : List 
         rest_most = omega (arith, c.rest_most, q.rest_more);
       }
 
+-- at the last state all are filled
+pub fill_done : {us src fs ws gs : List ℕ} {n t : ℕ} {nx : List ℕ} {left rest : ℕ} → t ≤ n → n ≤ t → Filled us src fs ws gs t nx left rest
+    → Filled us src fs ws gs n nx left rest
+fill_done {n = n} {t = t} x y c = let e : t ≡ n = omega arith in rw e at c
+
 -- the group of a state of a stretch
 module _ {us src fs ws gs : List ℕ} {b e left rest : ℕ} {nx : List ℕ} (p : CanFill us src fs ws gs b e left rest nx) where
+  pub stretch_first : get_or gs b 0 ≤ get_or gs e 0
+  stretch_first = p.flows.rise b e p.order (omega arith)
+
   pub stretch_in : {t g : ℕ} → b ≤ t → t < e → g ≡ get_or gs t 0 → g < get_or gs e 0
   stretch_in {t} h l x = omega (arith, p.one t h l, p.flows.rise (t + 1) e (omega arith) (omega arith))
 
@@ -63,3 +71,27 @@ module _ {src fs ws gs st us : List ℕ} {total n : ℕ} {nx : List ℕ} (p : Ca
     before = c;
     room = omega (arith, p.stops.most b (omega arith) h);
   }
+
+  -- what is left and what was rounded away is no more than there was, and the row is done
+  module _ {nx' : List ℕ} {left rest : ℕ} (c : Filled us src fs ws gs n nx' left rest) where
+    pub row_fits : left + (rest + (weight_total - 1)) / weight_total ≤ total
+    row_fits = omega (arith, c.value, p.mass)
+
+    pub row_done : RowDone src fs ws gs us total n nx' (total - left - (rest + (weight_total - 1)) / weight_total) left
+    row_done = record {
+      units = c.units;
+      pmf = omega (arith, c.value, p.mass);
+      survival = c.total;
+      most = omega (arith, row_fits, p.most);
+    }
+
+-- a point where units are left is a row
+pub point_some : {src fs ws gs us : List ℕ} {total n : ℕ} {nx nx' : List ℕ} {a b : ℕ} → (total ≡ 0 → ⊥) → length nx' ≡ length nx
+    → RowDone src fs ws gs us total n nx' a b → PointDone src fs ws gs us total n nx nx' a b
+point_some e x r = record {
+  same = x;
+  some = λ o. r;
+  none_pmf = λ o. absurd (e o);
+  none_survival = λ o. absurd (e o);
+  none_written = λ o. absurd (e o);
+}

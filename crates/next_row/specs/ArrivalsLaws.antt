@@ -8,6 +8,7 @@ use Rattle.std.proofs.lemmas.List.{get_or-take, get_or-drop, get_or_past, length
 use Rattle.std.proofs.Math.Decide.{dec_lt}
 use Rattle.std.proofs.lemmas.List.Sums.{sum_by-append, sum_by-take-le, sum_by-take-drop}
 use Rattle.std.proofs.Math.ListN.{get_or}
+use Rattle.rules.specs.Bounds.{zone_count}
 use Rattle.runlength.specs.Sum.{at}
 use Rattle.runlength.specs.SumLaws.{sum_zero, sum_upto}
 use Rattle.runlength.specs.Scale.{weight_total, units_per_one}
@@ -120,6 +121,19 @@ module _ {us src fs ws gs : List ℕ} {n g : ℕ} (p : Flows us src fs ws gs n) 
       omega (arith, rw (z, x, y) at q.value, weighed_more src fs ws (at us) g)
 
 module _ {us src fs ws gs : List ℕ} (t : ℕ) (p : Flows us src fs ws gs (t + 1)) where
+  -- no group so far
+  pub arrive_start : {g : ℕ} → g ≡ get_or gs t 0 → Arriving us src fs ws (get_or gs t 0) g 0 0
+  arrive_start e = rw e (record { value = omega arith; high_most = omega arith; low_most = omega arith })
+
+  -- both words have room for one group more
+  module _ {b g first last high low high' low' : ℕ} (l : g < get_or gs (t + 1) 0) (i : b ≡ get_or gs t 0) (x : first ≡ get_or fs g 0) (y : last ≡ get_or fs (g + 1) 0)
+      (c : Arriving us src fs ws b g high low) (q : Weighed us (slice_range src first last) (get_or ws g 0) high' low') where
+    pub arrive_high : high + high' ≤ zone_count * units_per_one
+    arrive_high = omega (arith, c.high_most, q.high_most, p.few t (omega arith))
+
+    pub arrive_low : low + low' ≤ zone_count * units_per_one
+    arrive_low = omega (arith, c.low_most, q.low_most, p.few t (omega arith))
+
   pub arrive_more : {g first last high low high' low' : ℕ} → g < get_or gs (t + 1) 0 → first ≡ get_or fs g 0 → last ≡ get_or fs (g + 1) 0
       → Arriving us src fs ws (get_or gs t 0) g high low → Weighed us (slice_range src first last) (get_or ws g 0) high' low'
       → Arriving us src fs ws (get_or gs t 0) (g + 1) (high + high') (low + low')

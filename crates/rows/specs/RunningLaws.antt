@@ -1,7 +1,7 @@
 -- Laws of the rows: what comes by the groups is what the chain's moves send, so each row is the table's.
 use Rattle.std.specs.Prelude.{◌≡◌, refl, Bool, List, ◌∷◌, ℕ, zero, suc, ◌+◌, ◌-◌, ◌*◌, ◌/◌, ◌≤◌, ◌<◌, eqb, length, get_or, set, take, replicate}
 use Rattle.std.proofs.Math.Path.{sym, ap}
-use Rattle.std.proofs.Common.{◌∙◌, ne_eqb}
+use Rattle.std.proofs.Common.{◌∙◌, length-set, ne_eqb}
 use Rattle.std.proofs.Math.Decide.{ℕ_discrete}
 use Rattle.std.proofs.Math.Numerals.{add-one}
 use Rattle.std.proofs.lemmas.List.{length-take, length-replicate, get_or-take}
@@ -16,11 +16,11 @@ use Rattle.runlength.proofs.ListedLaws.{listed_proper}
 use Rattle.runlength.proofs.FlowLaws.{step_conservation}
 use Rattle.runlength.specs.Scale.{weight_total, units_per_one}
 use Rattle.runlength.specs.SetLaws.{get_d_zeros}
-use Rattle.sources.specs.Sources.{come, SourcesListed}
-use Rattle.rows.specs.Rows.{chain, CanRun}
+use Rattle.sources.specs.Sources.{come, CanListSources, SourcesListed}
+use Rattle.rows.specs.Rows.{chain, CanRun, Ran}
 use Rattle.next_row.specs.Arrivals.{Flows}
 use Rattle.next_row.specs.OneRow.{CanRow, RowDone, CanPoint, PointDone}
-use Rattle.rows.specs.Running.{Running, MeanDone}
+use Rattle.rows.specs.Running.{Running, CanMean, MeanDone, Put}
 
 -- what comes in goes by the units of the states alone
 inflow_cong : (c : Chain) (u v : ℕ → ℕ) → ((s : ℕ) → s < c.size → u s ≡ v s) → (t : ℕ) → inflow c u t ≡ inflow c v t
@@ -29,12 +29,35 @@ inflow_cong c u v e t =
     sum_cong c.size _ _
     (λ s l. ap (λ (x : ℕ). sum c.automaton.zones (λ z. after (c.automaton.move s z) 0 (λ r. only (eqb r t) (x * c.weight z)))) (e s l))
 
+-- a point put into the two lists leaves their lengths
+pub put_pmf : {p l k : ℕ} {ps ss ps' ss' : List ℕ} → Put p l k ps ss ps' ss' → length ps' ≡ length ps
+put_pmf {p} {l} {k} {ps} d = ap length d.pmf ∙ length-set ps k p
+
+pub put_survival : {p l k : ℕ} {ps ss ps' ss' : List ℕ} → Put p l k ps ss ps' ss' → length ss' ≡ length ss
+put_survival {p} {l} {k} {ps} {ss} d = ap length d.survival ∙ length-set ss k l
+
 -- the first units: all in the state of a chart that was just reset
 units_start : (j t : ℕ) → get_or {A = ℕ} (units_per_one ∷ replicate j 0) t 0 ≡ only (eqb 0 t) units_per_one
 units_start j zero = refl
 units_start j (suc t) = get_d_zeros j t ∙ sym (ap (λ (b : Bool). only b units_per_one) (ne_eqb 0 (suc t) (omega arith)))
 
 module _ {m : List ℕ} {n : ℕ} {w : List ℕ} {h : ℕ} {ps ss : List ℕ} (p : CanRun m n w h ps ss) where
+  -- the sources can be listed
+  pub sources_of : CanListSources m n w (replicate (zone_count * max_states) 0) (replicate (zone_count * max_states + 1) 0) (replicate (zone_count * max_states) 0)
+      (replicate (max_states + 1) 0) (replicate (max_states + 1) 0)
+  sources_of = record {
+    some = p.some;
+    most = p.moves.most;
+    many = p.moves.many;
+    zones = p.weights.zones;
+    total = p.weights.total;
+    sources = refl;
+    firsts = refl;
+    shares = refl;
+    groups = refl;
+    stops = refl;
+  }
+
   proper : Proper (chain m n w)
   proper = listed_proper zone_count n m (at w) p.some p.weights.total
 
@@ -157,6 +180,10 @@ module _ {m : List ℕ} {n : ℕ} {w : List ℕ} {h : ℕ} {ps ss : List ℕ} (p
         | no e ↦ (r.some (omega arith)).most
       ]
 
+      -- the mean has room for one row more
+      pub run_mean : k ≤ h → CanMean last whole fraction b
+      run_mean l = record { fits = omega (arith, s.mean_most, p.rows); part = s.part; most = s.last_most; next_most = next_most }
+
       pub run_more : {last' whole' fraction' : ℕ} → k < h → length nx₀ ≡ max_states → MeanDone last whole fraction b last' whole' fraction'
           → Running m n w (k + 1) ps ss nx (set ps' k a) (set ss' k b) last' whole' fraction'
       unfolding restricted_mean
@@ -171,3 +198,26 @@ module _ {m : List ℕ} {n : ℕ} {w : List ℕ} {h : ℕ} {ps ss : List ℕ} (p
         mean_most = omega (arith, q.value, q.part, s.part, s.last_most, s.mean_most);
         part = q.part;
       })
+
+      -- and with the point put into the two lists
+      pub run_more_put : {ps'' ss'' : List ℕ} {last' whole' fraction' : ℕ} → k < h → length nx₀ ≡ max_states → Put a b k ps' ss' ps'' ss''
+          → MeanDone last whole fraction b last' whole' fraction' → Running m n w (k + 1) ps ss nx ps'' ss'' last' whole' fraction'
+      run_more_put l x d q = rw (d.pmf, d.survival) (run_more l x q)
+
+  -- two rows more
+  pub run_two : (k : ℕ) {us ps' ss' : List ℕ} {last whole fraction : ℕ} → Running m n w (k + 1 + 1) ps ss us ps' ss' last whole fraction
+      → Running m n w (k + 2) ps ss us ps' ss' last whole fraction
+  run_two k s = let e : k + 1 + 1 ≡ k + 2 = omega arith in rw e at s
+
+  -- at the horizon the rows are the table's
+  pub run_done : {k : ℕ} {us ps' ss' : List ℕ} {last whole fraction : ℕ} → k ≡ h → Running m n w k ps ss us ps' ss' last whole fraction
+      → Ran m n w h ps ss ps' ss' last whole fraction
+  run_done {k} {us} {ps'} {ss'} {last} {whole} {fraction} e r =
+      let s : Running m n w h ps ss us ps' ss' last whole fraction = rw e at r in
+      record {
+        pmf_list_lem = s.pmf_list_lem;
+        survival_list_lem = s.survival_list_lem;
+        survival_last = s.survival_last;
+        mean_whole = omega (arith, s.mean, s.part);
+        mean_fraction = omega (arith, s.mean, s.part);
+      }

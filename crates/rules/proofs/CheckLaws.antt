@@ -1,6 +1,6 @@
 -- Laws of the check: rule by rule, and what an accepted list has.
 use Rattle.std.specs.Prelude.{◌≡◌, refl, Bool, true, false, cond, List, [], ◌∷◌, ℕ, suc, ◌+◌, ◌-◌, ◌≤◌, ◌<◌, get_or, leb, Err, Ok}
-use Rattle.std.proofs.Common.{arith, leb-true}
+use Rattle.std.proofs.Common.{sym, ◌∙◌, arith, leb-true}
 use Rattle.rules.specs.declared.Rule.{Rule}
 use Rattle.rules.specs.declared.RuleList.{RuleList}
 use Rattle.rules.specs.declared.refusal.Refusal.{Refusal}
@@ -28,6 +28,21 @@ check_cons slots n i h = rw (rules_cons slots n i h)
 pub check_none : (slots : List Rule) (n i : ℕ) → n ≤ i → check_rules i (rules_from (n - i) i slots) ≡ Ok tt
 unfolding check_rules
 check_none slots n i h = rw (rules_none slots n i h)
+
+-- ---- what a match on an answer tells: by its tag, 0 for accepted and 1 for refused
+
+module _ (tag : Checked → ℕ) where
+  pub is_accepted : ((x : Refusal) → tag (Err x) ≡ 1) → {a b : Checked} → a ≡ b → tag a ≡ 0 → b ≡ Ok tt
+  is_accepted one {a} e h = sym e ∙ go a h
+    where
+      go : (a : Checked) → tag a ≡ 0 → a ≡ Ok tt
+      go (Ok _) h = refl
+      go (Err x) h = absurd (omega (arith, one x))
+
+  -- a refusal comes before whatever would follow it
+  pub is_refused : tag (Ok tt) ≡ 0 → (a b : Checked) → tag a ≡ 1 → or_else a b ≡ a
+  is_refused none (Ok _) b h = absurd (omega arith)
+  is_refused none (Err x) b h = refl
 
 -- ---- what an accepted list has
 

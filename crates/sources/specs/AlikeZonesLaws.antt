@@ -1,5 +1,5 @@
 -- Laws of alike zones.
-use Rattle.std.specs.Prelude.{◌≡◌, Bool, true, false, List, ℕ, ◌+◌, ◌*◌, ◌≤◌, ◌<◌, eqb, length, set}
+use Rattle.std.specs.Prelude.{◌≡◌, refl, Bool, true, false, List, ℕ, ◌+◌, ◌*◌, ◌≤◌, ◌<◌, eqb, length, set}
 use Rattle.std.proofs.Math.Path.{sym, ap}
 use Rattle.std.proofs.Common.{◌∙◌, get_or-set_same, get_or-set_other}
 use native.Mathlib.Omega.{arith}
@@ -24,6 +24,21 @@ alike_if {m} {n} {a} {b} true No p = record {
       rw here at (p s 0 (omega arith) (rw (length-range_with_len 0 n) l));
 }
 alike_if false No p = record { same = λ e. absurd (cc) }
+
+-- two zones that are not alike, and two that send every state alike
+pub alike_not : {m : List ℕ} {n a b : ℕ} → AlikeIf m n a b false
+alike_not = record { same = λ e. absurd (let z : ◌≡◌ {A = ℕ} 0 1 = cc in omega arith) }
+
+pub alike_all : {m : List ℕ} {n a b s : ℕ} → n ≤ s → ((k : ℕ) → k < s → get_or m (zone_count * k + a) 0 ≡ get_or m (zone_count * k + b) 0)
+    → AlikeIf m n a b true
+alike_all h p = record { same = λ e k l. p k (omega arith) }
+
+-- an earlier zone that was found alike, and the zone itself
+pub alike_found : {m : List ℕ} {n a z : ℕ} {r : Bool} → AlikeIf m n a z r → r ≡ true → a < z → AlikeZones m n a z
+alike_found p e l = record { within = omega arith; same = p.same e }
+
+pub alike_self : {m : List ℕ} {n z : ℕ} → AlikeZones m n z z
+alike_self = record { within = omega arith; same = λ s l. refl }
 
 alike_arrived : {m : List ℕ} {n a z : ℕ} → AlikeZones m n a z → (u : ℕ → ℕ) (t : ℕ) → arrived m u t a n ≡ arrived m u t z n
 unfolding arrived
@@ -74,3 +89,7 @@ module _ {m : List ℕ} {n : ℕ} {w j₀ : List ℕ} (p : CanJoin m n w j₀) w
           (λ k i h. ap (λ (x : ℕ). x * arrived m u t k n) (other k h))
           ∙ ap (λ (x : ℕ). x + get_or w z 0 * arrived m u t z n) (c.sums u t) ∙ sym (into_more m n t w u z);
     }
+
+  -- at the last zone all are joined
+  pub join_done : {z : ℕ} {j : List ℕ} → z ≤ zone_count → zone_count ≤ z → Joining m n w z j → Joining m n w zone_count j
+  join_done {z} x y c = let e : z ≡ zone_count = omega arith in rw e at c

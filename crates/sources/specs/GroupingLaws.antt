@@ -8,7 +8,7 @@ use Rattle.runlength.specs.SumLaws.{sum_zero, sum_more, sum_cong, sum_upto}
 use Rattle.runlength.specs.Scale.{weight_total}
 use Rattle.runlength.specs.SetLaws.{set_below, ordered_set}
 use Rattle.sources.specs.Sources.{gathered, weighed, Groups}
-use Rattle.sources.specs.Grouping.{one, arrived, into, counted, KeptBelow, Collected, CanZone, Grown, ZoneGrouped, CanGroupState, GroupingState}
+use Rattle.sources.specs.Grouping.{one, arrived, into, counted, KeptBelow, CanCollect, Collected, CanZone, Grown, ZoneGrouped, CanGroupState, GroupingState}
 use Rattle.sources.specs.SourcesLaws.{gathered_kept, ones, kept_set, arrived_most}
 use Rattle.sources.specs.MarksLaws.{unmarked}
 
@@ -57,6 +57,19 @@ module _ {m : List ℕ} {n z a t : ℕ} {ms src fs ws : List ℕ} {g : ℕ} (p :
     sums = λ u. omega (arith, ap (λ (v : ℕ). a * v) (unmarked p.marked p.target p.zone (rw y at x) u));
     end = omega arith;
   }
+
+  -- a zone of no weight
+  pub zone_light : a ≡ 0 → ZoneGrouped m n z a t src fs ws g src fs ws g
+  zone_light x = record {
+    grown = grown_none p.groups;
+    few = omega arith;
+    sums = λ u. omega (arith, ap (λ (y : ℕ). y * arrived m u t z n) x);
+    end = omega arith;
+  }
+
+  -- its sources can be collected
+  pub zone_can : {b : ℕ} → b ≡ get_or fs g 0 → CanCollect m n z t src b
+  zone_can x = record { moves = p.moves; zone = p.zone; inside = p.groups.inside; room = omega (arith, p.room) }
 
   module _ {src' : List ℕ} {e : ℕ} (c : Collected m n z t n src (get_or fs g 0) src' e) where
     -- the sources end where they are counted
@@ -175,3 +188,9 @@ module _ {m : List ℕ} {n : ℕ} {w : List ℕ} {t : ℕ} {ms src₀ fs₀ ws�
       sums = λ u. omega (arith, q.sums u, c.sums u, into_more m n t w u z);
       end = omega (arith, q.end, c.end, counted_more m n t z);
     }
+
+-- at the last zone a state's groups are done
+pub state_done : {m : List ℕ} {n : ℕ} {w : List ℕ} {t z : ℕ} {src₀ fs₀ ws₀ : List ℕ} {g₀ : ℕ} {src fs ws : List ℕ} {g : ℕ}
+    → z ≤ zone_count → zone_count ≤ z
+    → GroupingState m n w t z src₀ fs₀ ws₀ g₀ src fs ws g → GroupingState m n w t zone_count src₀ fs₀ ws₀ g₀ src fs ws g
+state_done {z = z} x y c = let e : z ≡ zone_count = omega arith in rw e at c

@@ -7,6 +7,7 @@ pub mod SourcesLaws
 pub mod GroupingLaws
 pub mod ListLaws
 pub mod Stops
+pub mod StopsLaws
 pub mod AlikeZones
 pub mod AlikeZonesLaws
 pub mod ListSourcesLaws

@@ -11,8 +11,8 @@ use Rattle.runlength.specs.Listed.{entry_move, listed_chain}
 use Rattle.runlength.specs.SetLaws.{get_d_zeros}
 use Rattle.sources.specs.Sources.{CanListSources, SourcesListed}
 use Rattle.sources.specs.Grouping.{arrived, into, CanList, Listing}
-use Rattle.sources.specs.Stops.{Stops}
-use Rattle.sources.specs.AlikeZones.{Joined}
+use Rattle.sources.specs.Stops.{CanListStops, Stops}
+use Rattle.sources.specs.AlikeZones.{CanJoin, Joined}
 
 -- a move's part for a state
 to_state : (n x t v a : ℕ) → t < n → a * only (eqb x t) v ≡ after (entry_move n x) 0 (λ r. only (eqb r t) (v * a))
@@ -36,6 +36,16 @@ into_inflow m n w u t h =
     ∙ sum_swap zone_count n (λ z s. after (entry_move n (get_or m (zone_count * s + z) 0)) 0 (λ r. only (eqb r t) (u s * get_or w z 0)))
 
 module _ {m : List ℕ} {n : ℕ} {w src fs ws gs st : List ℕ} (p : CanListSources m n w src fs ws gs st) where
+  -- the weights can be joined
+  pub join_of : CanJoin m n w (replicate zone_count 0)
+  join_of = record {
+    moves = record { many = p.many; most = p.most };
+    zones = p.zones;
+    weights = p.total;
+    room = length-replicate {A = ℕ} zone_count 0;
+    none = get_d_zeros zone_count;
+  }
+
   zeros : {l : List ℕ} (k i : ℕ) → l ≡ replicate k 0 → get_or l i 0 ≡ 0
   zeros k i e = rw e (get_d_zeros k i)
 
@@ -57,6 +67,10 @@ module _ {m : List ℕ} {n : ℕ} {w src fs ws gs st : List ℕ} (p : CanListSou
     first = zeros (zone_count * max_states + 1) 0 p.firsts;
     start = zeros (max_states + 1) 0 p.groups;
   }
+
+  -- the stretches of the groups can be listed
+  pub stops_of : {j src' fs' ws' gs' : List ℕ} → Listing m n j src' fs' ws' gs' n → CanListStops gs' n st
+  stops_of g = record { most = p.most; groups = g.shape.room; room = omega (arith, long (max_states + 1) p.stops, p.most) }
 
   pub listed_of : {j src' fs' ws' gs' st' : List ℕ} → Joined m n w j → Listing m n j src' fs' ws' gs' n → Stops gs' n 0 st'
       → SourcesListed m n w src' fs' ws' gs' st'

@@ -1,6 +1,6 @@
 -- Laws of the sources that a zone leads to a state.
-use Rattle.std.specs.Prelude.{◌≡◌, refl, Bool, List, ℕ, ◌+◌, ◌*◌, ◌≤◌, ◌<◌, eqb, get_or, set}
-use Rattle.std.proofs.Common.{ap, ◌∙◌, mul-one, arith, length-set, get_or-set_same, get_or-set_other, eq-eqb}
+use Rattle.std.specs.Prelude.{◌≡◌, refl, Bool, List, ℕ, ◌+◌, ◌*◌, ◌≤◌, ◌<◌, eqb, length, get_or, set}
+use Rattle.std.proofs.Common.{ap, ◌∙◌, mul-one, arith, length-set, get_or-set_same, get_or-set_other, eq-eqb, ne_eqb}
 use Rattle.rules.specs.Bounds.{zone_count}
 use Rattle.runlength.specs.Sum.{sum, only}
 use Rattle.runlength.specs.SumLaws.{sum_zero, sum_more, sum_cong, sum_le, sum_upto, sum_const}
@@ -11,6 +11,11 @@ use Rattle.sources.specs.Grouping.{one, arrived, KeptBelow, CanTake, Taken, CanC
 pub gathered_more : (src : List ℕ) (u : ℕ → ℕ) (e : ℕ) → gathered src u (e + 1) ≡ gathered src u e + u (get_or src e 0)
 unfolding gathered
 gathered_more src u e = sum_more e (λ j. u (get_or src j 0))
+
+-- more sources bring no less
+pub gathered_upto : (src : List ℕ) (u : ℕ → ℕ) (b e : ℕ) → b ≤ e → gathered src u b ≤ gathered src u e
+unfolding gathered
+gathered_upto src u b e h = sum_upto b e (λ j. u (get_or src j 0)) h
 
 -- sources before b alone count
 pub gathered_kept : {b : ℕ} {src src' : List ℕ} → KeptBelow b src src' → (u : ℕ → ℕ) (e : ℕ) → e ≤ b → gathered src' u e ≡ gathered src u e
@@ -33,6 +38,10 @@ kept_then : {b c : ℕ} {l l' l'' : List ℕ} → b ≤ c → KeptBelow b l l' �
 kept_then h p q = record { same = q.same ∙ p.same; kept = λ k x. q.kept k (omega arith) ∙ p.kept k x }
 
 module _ {src : List ℕ} {e s entry t : ℕ} (p : CanTake src e s entry t) where
+  -- a source that is taken has a place, and is then there
+  pub take_room : entry ≡ t → e < length src
+  take_room x = p.room x
+
   pub take_more : entry ≡ t → Taken src e s entry t (set src e s) (e + 1)
   take_more x = record {
     kept = kept_set e src e s (omega arith);
@@ -46,6 +55,15 @@ module _ {src : List ℕ} {e s entry t : ℕ} (p : CanTake src e s entry t) wher
       ap (λ (b : Bool). only b (u s)) (eq-eqb entry t x),
     );
   }
+
+-- a state that moves elsewhere is no source
+pub take_none : {src : List ℕ} {e s entry t : ℕ} → (entry ≡ t → ⊥) → Taken src e s entry t src e
+take_none {src} {e} {s} {entry} {t} x = record {
+  kept = kept_none e src;
+  order = omega arith;
+  inside = λ n h i. i;
+  sums = λ u. omega (arith, ap (λ (b : Bool). only b (u s)) (ne_eqb entry t x));
+}
 
 module _ (m : List ℕ) (u : ℕ → ℕ) (t z : ℕ) where
   arrived_zero : arrived m u t z 0 ≡ 0
@@ -99,3 +117,7 @@ module _ {m : List ℕ} {n z t : ℕ} {src₀ : List ℕ} {b : ℕ} (p : CanColl
       inside = q.inside n l c.inside;
       sums = λ u. omega (arith, q.sums u, c.sums u, arrived_more m u t z s);
     }
+
+  -- at the last state all sources are collected
+  pub collect_done : {s e : ℕ} {src : List ℕ} → s ≤ n → n ≤ s → Collected m n z t s src₀ b src e → Collected m n z t n src₀ b src e
+  collect_done {s} x y c = let e : s ≡ n = omega arith in rw e at c

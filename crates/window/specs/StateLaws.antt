@@ -82,7 +82,7 @@ bounds_from slots n (suc i) h p = let e : suc i ≡ i + 1 = omega arith in rw e 
 
 -- ---- bounds: a mask has a bit a rule, a window fits its digit, a state its number
 
-bit_le : (t : Bool) → bit t ≤ 1
+pub bit_le : (t : Bool) → bit t ≤ 1
 bit_le true = omega arith
 bit_le false = omega arith
 
@@ -108,9 +108,9 @@ next_lt (suc n) i slots s z h =
     let e : window_base ^ suc n ≡ window_base * window_base ^ n = pow-succ' window_base n in
     omega (arith, next_lt n (i + 1) slots (s / window_base) z h.1, window_small (get_or slots i no_rule) (s % window_base) z h.0)
 
-next_small : (n i : ℕ) (slots : List Rule) (s z : ℕ) → n ≤ max_rules → AllInBounds (rules_from n i slots)
-    → next_state (rules_from n i slots) s z < window_base ^ max_rules
-next_small n i slots s z h p = lt_of_lt_of_le (next_lt n i slots s z p) (pow-le-pow_right {n = window_base} (omega arith) {i = n} {j = max_rules} h)
+next_small : (k n i : ℕ) (slots : List Rule) (s z : ℕ) → n ≤ k → AllInBounds (rules_from n i slots)
+    → next_state (rules_from n i slots) s z < window_base ^ k
+next_small k n i slots s z h p = lt_of_lt_of_le (next_lt n i slots s z p) (pow-le-pow_right {n = window_base} (omega arith) {i = n} {j = k} h)
 
 -- ---- the rules moved by a point, from the last to the first
 
@@ -125,11 +125,20 @@ moved_none slots n s z =
     }
 
 module _ {slots : List Rule} {n s z i mask next : ℕ} (p : MovedFrom slots n s z i mask next) where
-  -- a mask and a state have room for them
-  pub moved_fits : n ≤ max_rules → AllInBounds (rules_from n 0 slots) → (mask < 2 ^ max_rules) × (next < window_base ^ max_rules)
-  moved_fits few bounds = (
+  -- there is room for one rule more
+  pub moved_fits : n ≤ max_rules → AllInBounds (rules_from n 0 slots) → 0 < i
+      → (mask < 2 ^ max_rules) × (next < window_base ^ (max_rules - 1))
+  moved_fits few bounds some = (
     rw p.mask_is (mask_small (n - i) i slots (windows_from i s) z (omega arith)),
-    rw p.next_is (next_small (n - i) i slots (windows_from i s) z (omega arith) (bounds_from slots n i p.at_most bounds)),
+    rw p.next_is
+        (next_small (max_rules - 1) (n - i) i slots (windows_from i s) z (omega (arith, p.at_most)) (bounds_from slots n i p.at_most bounds)),
+  )
+
+  -- a mask and a state have room for them
+  pub moved_within : n ≤ max_rules → AllInBounds (rules_from n 0 slots) → (mask < 2 ^ max_rules) × (next < window_base ^ max_rules)
+  moved_within few bounds = (
+    rw p.mask_is (mask_small (n - i) i slots (windows_from i s) z (omega arith)),
+    rw p.next_is (next_small max_rules (n - i) i slots (windows_from i s) z (omega arith) (bounds_from slots n i p.at_most bounds)),
   )
 
   -- rule i - 1 before those from i on

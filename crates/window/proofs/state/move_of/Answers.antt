@@ -1,7 +1,7 @@
 -- `state::move_of` meets its contract. The invariant: the rules passed are moved, from the last on; then by the mask, which is 0 or not.
 use Rattle.std.proofs.Common.{ap, sym, ◌-◌, ◌∙◌, arith}
 use Rattle.rules.specs.Check.{active_rules}
-use Rattle.window.specs.StateLaws.{bounds_cons, bounds_from, moved_none, moved_fits, moved_more, moved_all}
+use Rattle.window.specs.StateLaws.{bounds_cons, bounds_from, moved_none, moved_within, moved_more, moved_all}
 use Rattle.window.specs.MoveLaws.{move_quiet, move_signal}
 use Rattle.window.specs.declared.Move.TheVariants.{Quiet, Signal}
 use Rattle.window.specs.SettledLaws.{settled_at}
@@ -23,25 +23,25 @@ settled_move-moved-requires c =
 pub overflow_mul-mask : goal.overflow_mul-mask
 overflow_mul-mask c =
     let p = c.requires.len_le_max_rules in
-    let fits = moved_fits (moved_more c.loop-i.invariant (omega arith) c.window_at.ensures c.from.ensures c.settled_move-moved.ensures) p.0 p.1 in
+    let fits = moved_within (moved_more c.loop-i.invariant (omega arith) c.window_at.ensures c.from.ensures c.settled_move-moved.ensures) p.0 p.1 in
     omega arith
 
 pub overflow_add-mask : goal.overflow_add-mask
 overflow_add-mask c =
     let p = c.requires.len_le_max_rules in
-    let fits = moved_fits (moved_more c.loop-i.invariant (omega arith) c.window_at.ensures c.from.ensures c.settled_move-moved.ensures) p.0 p.1 in
+    let fits = moved_within (moved_more c.loop-i.invariant (omega arith) c.window_at.ensures c.from.ensures c.settled_move-moved.ensures) p.0 p.1 in
     omega arith
 
 pub overflow_mul-next : goal.overflow_mul-next
 overflow_mul-next c =
     let p = c.requires.len_le_max_rules in
-    let fits = moved_fits (moved_more c.loop-i.invariant (omega arith) c.window_at.ensures c.from.ensures c.settled_move-moved.ensures) p.0 p.1 in
+    let fits = moved_within (moved_more c.loop-i.invariant (omega arith) c.window_at.ensures c.from.ensures c.settled_move-moved.ensures) p.0 p.1 in
     omega arith
 
 pub overflow_add-next : goal.overflow_add-next
 overflow_add-next c =
     let p = c.requires.len_le_max_rules in
-    let fits = moved_fits (moved_more c.loop-i.invariant (omega arith) c.window_at.ensures c.from.ensures c.settled_move-moved.ensures) p.0 p.1 in
+    let fits = moved_within (moved_more c.loop-i.invariant (omega arith) c.window_at.ensures c.from.ensures c.settled_move-moved.ensures) p.0 p.1 in
     omega arith
 
 pub loop-i-preserved : goal.loop-i-preserved
