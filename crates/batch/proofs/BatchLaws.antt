@@ -120,13 +120,15 @@ left_all l m centre sigma xs r =
 
 module _ {l : RuleList} {start : Monitor} {centre : ℤ} {sigma : ℕ} {xs : List ℤ} {m : Monitor} {i : ℕ}
     (left : Left l start centre sigma xs m i) where
-  pub left_none : i ≡ length xs → readings_from l start centre sigma xs
-      ≡ record { taken = length xs; refusal = None; count = m.count; signal = None; next = m }
+  pub left_none : length xs ≤ i → readings_from l start centre sigma xs
+      ≡ record { taken = i; refusal = None; count = m.count; signal = None; next = m }
   unfolding readings_from
-  left_none h =
-      let e : i + 0 ≡ length xs = omega arith in
-      let past : length xs ≤ i = omega arith in
-      left.same ∙ rw (drop_of_length-le xs past, e)
+  left_none h = let e : i + 0 ≡ i = omega arith in left.same ∙ rw (drop_of_length-le xs h, e)
+
+  -- the same where all are counted
+  pub left_end : i ≡ length xs → readings_from l start centre sigma xs
+      ≡ record { taken = length xs; refusal = None; count = m.count; signal = None; next = m }
+  left_end h = rw (sym h) (left_none (omega arith))
 
   module _ (h : i < length xs) where
     -- the next reading

@@ -40,11 +40,7 @@ pub(crate) fn put_points(
     let mut nodes = [fresh_node(); NODES as usize];
     let mut i = at;
     let mut w = Writer::new(out, 0);
-    loop {
-        let Some(read) = line_at(text, i, b"point", b"ns") else {
-            put_totals(&mut w, nodes);
-            return w.end();
-        };
+    while let Some(read) = line_at(text, i, b"point", b"ns") {
         let node = read.values[0];
         let zone = chart.zone_at(signed_value(read.values[1]));
         let point = chart_point(node, nodes[node as usize], list, zone);
@@ -54,4 +50,6 @@ pub(crate) fn put_points(
         nodes[node as usize] = next_node;
         i = read.next;
     }
+    put_totals(&mut w, nodes);
+    w.end()
 }

@@ -42,16 +42,14 @@ pub(crate) fn parse_run(
     let mut count: u32 = 0;
     let mut below: u32 = 0;
     let mut i = at;
-    loop {
-        let Some(line) = parse_line(text, i, word, letters) else {
-            return Run {
-                count,
-                below,
-                next: i,
-            };
-        };
+    while let Some(line) = parse_line(text, i, word, letters) {
         below = one_more(count, below, line.values[field], bound);
         count += 1;
         i = line.next;
+    }
+    Run {
+        count,
+        below,
+        next: i,
     }
 }

@@ -5,7 +5,7 @@ ghost use Rattle.std.specs.Prelude.{◌≤◌, length};
 const MODULUS: u64 = 4294967291;
 
 // Where the line with this index ends: behind its LF, or where the bytes end.
-pub fn line_end(bytes: &[u8], line: usize) -> usize
+pub fn end_of_line(bytes: &[u8], line: usize) -> usize
     ensures { result ≤ length bytes.now }
 {
     let mut ends = bytes.iter().enumerate().filter(|(_, byte)| **byte == b'\n');

@@ -20,7 +20,7 @@ fn lines(out: &impl Print, report: &[u8]) -> io::Result<()> {
 }
 
 fn ends(out: &impl Print, report: &[u8]) -> io::Result<()> {
-    lines(out, &report[..bytes::line_end(report, FIRST - 1)])?;
+    lines(out, &report[..bytes::end_of_line(report, FIRST - 1)])?;
     let checksum = bytes::checksum(report);
     println!(out; ".. bytes {} checksum {checksum} ..", report.len())?;
     lines(out, &report[bytes::tail(report, LAST)..])

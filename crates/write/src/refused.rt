@@ -11,14 +11,23 @@ use rules::Refusal;
 impl Writer<'_> {
     // The line `refused,number,place`.
     #[tactic(auto, using(crate::proofs::FieldLaws::field_short))]
+    pub fn refused_by(&mut self, number: u32, place: u32)
+        requires { HasRoom self.old refused_room }
+        ensures wrote { Writes self.old (refused_line number place) self.new }
+        ensures upper_bound { AtMost self.old refused_room self.new }
+    {
+        self.named(b"refused", number as u64);
+        self.field(place as u64);
+        self.byte(b'\n');
+    }
+
+    // The line of a refusal.
     pub fn refused(&mut self, refusal: Refusal)
         requires { HasRoom self.old refused_room }
         ensures wrote { Writes self.old (refused_line (number_of refusal) (place_of refusal)) self.new }
         ensures upper_bound { AtMost self.old refused_room self.new }
     {
-        self.named(b"refused", u64::from(refusal.number()));
-        self.field(u64::from(refusal.place()));
-        self.byte(b'\n');
+        self.refused_by(refusal.number(), refusal.place());
     }
 }
 

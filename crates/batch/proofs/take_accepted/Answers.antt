@@ -14,7 +14,8 @@ use Rattle.monitor.specs.Take.{taken_of}
 use Rattle.monitor.specs.Zone.{zone_at}
 use Rattle.monitor.specs.ZoneLaws.{zone_exists}
 use Rattle.batch.specs.Batch.{Left}
-use Rattle.batch.proofs.BatchLaws.{left_none, left_full, left_signal, left_quiet}
+use borrow.Author.Rules.{rules}
+use Rattle.batch.proofs.BatchLaws.{left_end, left_full, left_signal, left_quiet}
 use Rattle.batch.proofs.take_accepted.Goals as goal
 
 -- the point that the loop's body takes: the reading comes out of the slice as it stands there
@@ -39,16 +40,16 @@ take-requires-clause-len_le_max_rules c =
 pub returns-in-Signal : goal.returns-in-Signal
 returns-in-Signal c =
     let v = c.loop-i.invariant in
-    let point = point_read v (record { sfits = c.zone_at-arg-1.given }) c.zone_at.ensures
+    let point = point_read v (record { sfits = search rules }) c.zone_at.ensures
     (sym c.in-Signal.is ∙ c.take.ensures) in
     rw c.fresh.ensures (sym (left_signal v c.loop-i-test.true c.if-points-ge-MAX_NUMBER.false point))
 
 pub loop-i-preserved : goal.loop-i-preserved
 loop-i-preserved c =
     let v = c.loop-i.invariant in
-    let point = point_read v (record { sfits = c.zone_at-arg-1.given }) c.zone_at.ensures
+    let point = point_read v (record { sfits = search rules }) c.zone_at.ensures
     (sym c.in-Quiet.is ∙ c.take.ensures) in
     left_quiet v c.loop-i-test.true c.if-points-ge-MAX_NUMBER.false point
 
 pub returns : goal.returns
-returns c = sym (left_none c.loop-i.invariant (omega arith))
+returns c = sym (left_end c.loop-i.invariant (omega arith))

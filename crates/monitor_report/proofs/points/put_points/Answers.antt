@@ -17,8 +17,8 @@ loop-read-init c =
       bench = rw c.new-w.ensures.same_place (written_start c.requires.on_bench _ fresh refl);
     }
 
-pub returns-in_default : goal.returns-in_default
-returns-in_default c =
+pub returns : goal.returns
+returns c =
     let u = c.loop-read.invariant.bench in
     let whole = written_done u (no_point_seen _ _ c.line_at.ensures c.in_default.is) _ c.put_totals.ensures.wrote in search rules
 
@@ -39,8 +39,8 @@ chart_point-point-requires-clause-state_value c =
     let below = node_below u _ _ _ (point_seen _ _ c.line_at.ensures c.in-Some.is) in
     (node_ready u c.requires.len_le_max_rules.1 c.requires.text_len_bound _ below).1
 
-pub bounds-nodes-node-in-loop-read : goal.bounds-nodes-node-in-loop-read
-bounds-nodes-node-in-loop-read c =
+pub bounds-nodes-node-in-Some : goal.bounds-nodes-node-in-Some
+bounds-nodes-node-in-Some c =
     let u = c.loop-read.invariant.bench in
     node_below u _ _ _ (point_seen _ _ c.line_at.ensures c.in-Some.is)
 

@@ -6,8 +6,8 @@ use Rattle.text.proofs.runs.parse_run.Goals as goal
 pub loop-line-init : goal.loop-line-init
 loop-line-init c = run_start _ _ _ _ _ _
 
-pub returns-in_default : goal.returns-in_default
-returns-in_default c =
+pub returns : goal.returns
+returns c =
     run_done c.loop-line.invariant c.parse_line.ensures c.in_default.is
 
 pub one_more-below-requires : goal.one_more-below-requires
