@@ -3,7 +3,7 @@ ghost use Rattle.next_row.specs.OneRow.{CanRound, Rounded, CanFill, Filled, CanR
 
 use crate::inflow::{Inflow, arrive, weigh};
 use runlength::WEIGHT_TOTAL;
-use sources::SourceLists;
+use sources::Sources;
 
 // What the row has moved so far: left is the sum of the new units, and left * 2^30 + rest the sum of all that came into their states.
 #[derive(Clone, Copy)]
@@ -31,15 +31,15 @@ impl Moved {
 // each a table takes a sixth longer.
 #[inline(always)]
 fn stretch(
-    lists: &SourceLists,
+    lists: Sources<'_>,
     units: &[u64],
     from: usize,
     stop: usize,
     before: Moved,
     next: &mut [u64],
 ) -> Moved
-    requires { CanFill units.now lists.now.sources lists.now.firsts lists.now.shares lists.now.groups from stop before.left before.rest next.old }
-    ensures { Filled units.now lists.now.sources lists.now.firsts lists.now.shares lists.now.groups stop next.new result.left result.rest }
+    requires { CanFill units.now lists.sources.now lists.firsts.now lists.shares.now lists.groups.now from stop before.left before.rest next.old }
+    ensures { Filled units.now lists.entry.sources.now lists.entry.firsts.now lists.entry.shares.now lists.entry.groups.now stop next.new result.left result.rest }
 {
     let mut moved = before;
     let mut g = usize::from(lists.groups[from]);
@@ -63,9 +63,9 @@ pub struct Point {
 
 // One row: the new units from the old, which sum to `total`; the units that signal, and the sum of those that do not. Nothing is lost before
 // the division, so what signals is what comes into no state.
-fn make_row(lists: &SourceLists, units: &[u64], total: u64, n: usize, next: &mut [u64]) -> Point
-    requires { CanRow lists.now.sources lists.now.firsts lists.now.shares lists.now.groups lists.now.stops units.now total n next.old }
-    ensures { RowDone lists.now.sources lists.now.firsts lists.now.shares lists.now.groups units.now total n next.new result.pmf result.survival }
+fn make_row(lists: Sources<'_>, units: &[u64], total: u64, n: usize, next: &mut [u64]) -> Point
+    requires { CanRow lists.sources.now lists.firsts.now lists.shares.now lists.groups.now lists.stops.now units.now total n next.old }
+    ensures { RowDone lists.entry.sources.now lists.entry.firsts.now lists.entry.shares.now lists.entry.groups.now units.now total n next.new result.pmf result.survival }
 {
     let none = Moved { left: 0, rest: 0 };
     let mut t = usize::from(lists.stops[0]);
@@ -88,14 +88,14 @@ fn make_row(lists: &SourceLists, units: &[u64], total: u64, n: usize, next: &mut
 // The next point: the row where units are left; once none are, every later row is 0, and `next` is as it was. For the crates of this repository:
 // it has a `requires`.
 pub fn next_point(
-    lists: &SourceLists,
+    lists: Sources<'_>,
     units: &[u64],
     total: u64,
     n: usize,
     next: &mut [u64],
 ) -> Point
-    requires { CanPoint lists.now.sources lists.now.firsts lists.now.shares lists.now.groups lists.now.stops units.now total n next.old }
-    ensures { PointDone lists.now.sources lists.now.firsts lists.now.shares lists.now.groups units.now total n next.old next.new result.pmf result.survival }
+    requires { CanPoint lists.sources.now lists.firsts.now lists.shares.now lists.groups.now lists.stops.now units.now total n next.old }
+    ensures { PointDone lists.entry.sources.now lists.entry.firsts.now lists.entry.shares.now lists.entry.groups.now units.now total n next.old next.new result.pmf result.survival }
 {
     if total == 0 {
         return Point {

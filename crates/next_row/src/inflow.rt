@@ -4,7 +4,7 @@ ghost use Rattle.runlength.specs.Sum.{at};
 ghost use Rattle.next_row.specs.Arrivals.{CanGather, CanWeigh, Weighed, Flows, Arrived};
 
 use runlength::WEIGHT_TOTAL;
-use sources::SourceLists;
+use sources::Sources;
 
 // The units of the sources of a group together, two at a time: with one at a time a table takes a third longer.
 fn gather(units: &[u64], group: &[u16]) -> u64
@@ -40,9 +40,9 @@ pub(crate) fn weigh(units: &[u64], group: &[u16], share: u32) -> Inflow
 }
 
 // What comes into state t by all its groups.
-pub(crate) fn arrive(lists: &SourceLists, units: &[u64], t: usize) -> Inflow
-    requires { Flows units.now lists.now.sources lists.now.firsts lists.now.shares lists.now.groups (t + 1) }
-    ensures { Arrived units.now lists.now.sources lists.now.firsts lists.now.shares lists.now.groups t result.high result.low }
+pub(crate) fn arrive(lists: Sources<'_>, units: &[u64], t: usize) -> Inflow
+    requires { Flows units.now lists.sources.now lists.firsts.now lists.shares.now lists.groups.now (t + 1) }
+    ensures { Arrived units.now lists.entry.sources.now lists.entry.firsts.now lists.entry.shares.now lists.entry.groups.now t result.high result.low }
 {
     let begin = usize::from(lists.groups[t]);
     let end = usize::from(lists.groups[t + 1]);

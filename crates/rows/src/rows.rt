@@ -55,8 +55,9 @@ pub fn run_rows(
     // The units of one row and of the next: they change places, and nothing is copied. Both are parts of one list, so that they always lie to
     // one another in the same way: with two lists that lay badly a table took 7 percent longer.
     let (mut now, mut next) = units.split_at_mut(RuleList::MAX_STATES);
+    let lent = lists.lend();
     for k in 0..horizon {
-        let point = next_point(&lists, now, totals.survival, n, next);
+        let point = next_point(lent, now, totals.survival, n, next);
         totals = totals.after(point.survival);
         pmf[k] = point.pmf;
         survival[k] = point.survival;

@@ -9,7 +9,7 @@ use Rattle.runlength.specs.Automaton.{quiet, signal, after}
 use Rattle.runlength.specs.Chain.{inflow}
 use Rattle.runlength.specs.Listed.{entry_move, listed_chain}
 use Rattle.runlength.specs.SetLaws.{get_d_zeros}
-use Rattle.sources.specs.Sources.{CanListSources, SourcesListed}
+use Rattle.sources.specs.Sources.{Lent, CanListSources, SourcesListed}
 use Rattle.sources.specs.Grouping.{arrived, into, CanList, Listing}
 use Rattle.sources.specs.Stops.{CanListStops, Stops}
 use Rattle.sources.specs.AlikeZones.{CanJoin, Joined}
@@ -79,3 +79,8 @@ module _ {m : List ℕ} {n : ℕ} {w src fs ws gs st : List ℕ} (p : CanListSou
     stops = s;
     sums = λ t l u. g.sums t l u ∙ q.sums u t ∙ into_inflow m n w u t l;
   }
+
+-- lists that are lent are the lists
+pub lent_listed : {m : List ℕ} {n : ℕ} {w src fs ws gs st src' fs' ws' gs' st' : List ℕ} → SourcesListed m n w src fs ws gs st
+    → Lent src fs ws gs st src' fs' ws' gs' st' → SourcesListed m n w src' fs' ws' gs' st'
+lent_listed l e = rw (e.sources, e.firsts, e.shares, e.groups, e.stops) l

@@ -54,7 +54,15 @@ pub record NoSources (src fs ws gs st : List ℕ) : Type 0 where
   pub groups : gs ≡ replicate (max_states + 1) 0
   pub stops : st ≡ replicate (max_states + 1) 0
 
--- the lists as they are lent: all 0, with room for the most states
+-- the lists as they are lent to the rows: each the one it was
+pub record Lent (src fs ws gs st src' fs' ws' gs' st' : List ℕ) : Type 0 where
+  pub sources : src' ≡ src
+  pub firsts : fs' ≡ fs
+  pub shares : ws' ≡ ws
+  pub groups : gs' ≡ gs
+  pub stops : st' ≡ st
+
+-- the lists as they are lent to be filled: all 0, with room for the most states
 pub record CanListSources (m : List ℕ) (n : ℕ) (w src fs ws gs st : List ℕ) : Type 0 where
   pub some : 0 < n
   pub most : n ≤ max_states

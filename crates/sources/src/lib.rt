@@ -8,7 +8,7 @@ mod zones;
 
 ghost use Rattle.std.specs.Prelude.{◌*◌, ◌≤◌, ◌≡◌};
 ghost use Rattle.rules.specs.Bounds.{zone_count, max_states};
-ghost use Rattle.sources.specs.Sources.{NoSources, CanListSources, SourcesListed};
+ghost use Rattle.sources.specs.Sources.{NoSources, Lent, CanListSources, SourcesListed};
 
 use groups::list_groups;
 use rules::{RuleList, ZONES};
@@ -44,6 +44,29 @@ impl SourceLists {
             stops: [0; RuleList::MAX_STATES + 1],
         }
     }
+
+    // The lists, lent to the rows.
+    pub fn lend(&self) -> Sources<'_>
+        ensures { let l = self.now in Lent l.sources l.firsts l.shares l.groups l.stops result.sources.now result.firsts.now result.shares.now result.groups.now result.stops.now }
+    {
+        Sources {
+            sources: &self.sources,
+            firsts: &self.firsts,
+            shares: &self.shares,
+            groups: &self.groups,
+            stops: &self.stops,
+        }
+    }
+}
+
+// The lists of `SourceLists` as they are lent to the rows, of any length.
+#[derive(Clone, Copy)]
+pub struct Sources<'a> {
+    pub sources: &'a [u16],
+    pub firsts: &'a [u16],
+    pub shares: &'a [u32],
+    pub groups: &'a [u16],
+    pub stops: &'a [u16],
 }
 
 // The lists of the n states that `moves` gives: state s by zone z at ZONES * s + z, and any entry of n or more a signal. All lists are 0 before.

@@ -6,7 +6,7 @@ use Rattle.next_row.proofs.flow.make_row.Given as goal
 abbrev pub invariant-loop-t : goal.invariant-loop-t
 invariant-loop-t l = record {
   most : l.t ≤ l.n;
-  filled : Filled l.units l.lists.sources l.lists.firsts l.lists.shares l.lists.groups l.t l.next l.moved.left l.moved.rest;
+  filled : Filled l.units l.lists.sources.now l.lists.firsts.now l.lists.shares.now l.lists.groups.now l.t l.next l.moved.left l.moved.rest;
 }
 
 abbrev pub decreases-loop-t : goal.decreases-loop-t
