@@ -1,7 +1,7 @@
 #!/usr/bin/env python3
 """No public operation asks anything of its caller: every `pub` function of a library with a `requires` is one that docs/ARCHITECTURE.md names.
 
-The list is the first column of the table under 'Functions that ask something of their caller', each name with its crate, as `write::put_byte`. Run
+The list is the first column of the table under 'Functions that ask something of their caller', each name with its crate, as `write::Writer::byte`. Run
 at the root of the repository. Exit status 1 where a function asks and is not named, or is named and does not ask."""
 import re
 import sys
