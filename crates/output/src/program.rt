@@ -1,5 +1,5 @@
 // A program: a text on its input, its report on its output.
-ghost use Rattle.std.specs.Prelude.{ℕ, ◌≤◌, OnOk, length, take};
+ghost use Rattle.std.specs.Prelude.{ℕ, ◌≡◌, ◌≤◌, OnOk, length, take};
 ghost use Rattle.std.specs.Io.KnownBytes.{Appends, Consumes, IsAtEnd, Keeps};
 ghost use Rattle.output.specs.Failures.{OnInput, OnOutput};
 
@@ -20,14 +20,14 @@ pub fn run<R: Read, W: Write, B: AsSlice<u8>, F: FnOnce(&[u8], &mut B) -> usize>
 ) -> Result<(), Failure>
     requires callable { F.IsAlwaysCallable report }
     requires bound { (t : _) (b : _) (n : ℕ) (b' : _) → F.post report t b n b' → n ≤ length (B.items b'.now) }
-    ensures all { OnOk result ((t : _) × (b : _) × (n : ℕ) × (b' : _) × F.post report t b n b'
+    ensures all { OnOk result ((t : _) × (b : _) × (n : ℕ) × (b' : _) × F.post report t b n b' × (b.now ≡ buf.old) × (b'.now ≡ buf.new)
         × Consumes (R.remaining input.old) (R.remaining input.new) t.now
         × (length t.now ≤ MAX_TEXT → IsAtEnd (R.remaining input.new))
         × Appends (W.contents out.old) (W.contents out.new) (take n (B.items b'.now))) }
-    ensures part { OnOutput result ((t : _) × (b : _) × (n : ℕ) × (b' : _) × (k : ℕ) × F.post report t b n b'
+    ensures part { OnOutput result ((t : _) × (b : _) × (n : ℕ) × (b' : _) × (k : ℕ) × F.post report t b n b' × (b.now ≡ buf.old) × (b'.now ≡ buf.new)
         × Consumes (R.remaining input.old) (R.remaining input.new) t.now
         × Appends (W.contents out.old) (W.contents out.new) (take k (take n (B.items b'.now)))) }
-    ensures none { OnInput result (Keeps (W.contents out.old) (W.contents out.new)) }
+    ensures none { OnInput result (Keeps (W.contents out.old) (W.contents out.new) × (buf.new ≡ buf.old)) }
 {
     let mut text = [0u8; MAX_TEXT + 1];
     let n = read_input(input, &mut text).map_err(Failure::Input)?;

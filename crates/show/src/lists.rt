@@ -1,6 +1,6 @@
 // Rule lists, as tables of cases write them.
-ghost use Rattle.std.specs.Prelude.{◌≡◌, ◌+◌, ◌≤◌, ◌<◌, length, min};
-ghost use Rattle.rules.specs.Bounds.{max_rules};
+ghost use Rattle.std.specs.Prelude.{◌≡◌};
+ghost use Rattle.show.specs.Lists.{meant, no_rules, with_rule, with_rules};
 
 use rules::{Rule, RuleList};
 use std::{fmt, io};
@@ -21,6 +21,8 @@ pub enum Rules {
 }
 
 impl From<T> for Rule {
+    ghost from_gives = { λ t r. r ≡ meant t };
+
     fn from(t: T) -> Rule {
         Rule::new(t.0, t.1, t.2)
     }
@@ -71,25 +73,22 @@ pub fn whole(out: &impl Print, list: &RuleList) -> io::Result<()> {
 
 // The list with the rule behind its others; as it was, where it has no room.
 pub fn with(list: RuleList, rule: T) -> RuleList
-    ensures room { list.len < max_rules → result.len ≡ list.len + 1 }
-    ensures full { max_rules ≤ list.len → result ≡ list }
+    ensures { result ≡ with_rule list rule }
 {
+    if list.len >= RuleList::MAX_RULES {
+        return list;
+    }
     let mut rules = list.rules;
-    match rules.get_mut(list.len as usize) {
-        Some(slot) => {
-            *slot = Rule::from(rule);
-            RuleList {
-                rules,
-                len: list.len + 1,
-            }
-        }
-        None => list,
+    rules[list.len as usize] = Rule::from(rule);
+    RuleList {
+        rules,
+        len: list.len + 1,
     }
 }
 
 // The list of these rules, as many as it has room for.
 pub fn list_of(rules: &[T]) -> RuleList
-    ensures { result.len ≡ min (length rules.now) max_rules }
+    ensures { result ≡ with_rules no_rules rules.now }
 {
     let mut list = RuleList {
         rules: [Rule::from(NONE); RuleList::MAX_RULES as usize],

@@ -24,7 +24,7 @@ pub returns-clause-all : goal.returns-clause-all
 returns-clause-all g c =
     let written = subst (λ bytes. Appends (g.W.Write.contents c.args.out.now) (g.W.Write.contents c.lines.new.out) (take c.report-m.result bytes)) c.as_slice.ensures in
     all_told c.lines.result c.map_err-2.result _ _ c.map_err-2.ensures.variant
-    (λ put. (_, _, _, _, c.report-m.ensures, search rules, search rules, written put)) c.lines.ensures.all
+    (λ put. (_, _, _, _, c.report-m.ensures, search rules, search rules, search rules, search rules, written put)) c.lines.ensures.all
 
 pub returns-clause-part : goal.returns-clause-part
 returns-clause-part g c =
@@ -36,6 +36,8 @@ returns-clause-part g c =
       _,
       put.0,
       c.report-m.ensures,
+      search rules,
+      search rules,
       search rules,
       subst (λ bytes. Appends (g.W.Write.contents c.args.out.now) (g.W.Write.contents c.lines.new.out) (take put.0 (take c.report-m.result bytes))) c.as_slice.ensures put.2,
     ))

@@ -1,0 +1,2 @@
+-- What the test programs' rule lists are.
+pub mod Lists
