@@ -50,6 +50,7 @@ impl Chart {
     }
 
     // The zone of a reading where sigma is within its bounds. For the crates of this repository.
+    #[tactic(auto, using(crate::specs::ZoneLaws::offset_above))]
     pub fn zone_at(self, reading: i32) -> u32
         requires { self.sigma ≤ max_sigma }
         ensures { result ≡ zone_at (reading -ℤ self.centre) self.sigma }

@@ -4,6 +4,7 @@ use Rattle.std.proofs.Math.Path.{ap}
 use Rattle.std.proofs.Common.{◌∙◌, mul-le-mul}
 use native.Mathlib.Omega.{arith}
 use Rattle.std.proofs.Math.ListN.{get_or}
+use Rattle.rules.specs.Bounds.{zone_count}
 use Rattle.runlength.specs.Sum.{at}
 use Rattle.runlength.specs.Scale.{weight_total, units_per_one}
 use Rattle.sources.specs.Sources.{gathered, weighed, come}
@@ -126,6 +127,12 @@ module _ {us src fs ws gs : List ℕ} (t : ℕ) (p : Flows us src fs ws gs (t + 
       high_most = omega (arith, c.high_most, q.high_most);
       low_most = omega (arith, c.low_most, q.low_most);
     }
+
+    pub arrive_high_range : high + high' ≤ zone_count * units_per_one
+    arrive_high_range = omega (arith, c.high_most, q.high_most, p.few t (omega arith))
+
+    pub arrive_low_range : low + low' ≤ zone_count * units_per_one
+    arrive_low_range = omega (arith, c.low_most, q.low_most, p.few t (omega arith))
 
 -- a state with one group
 pub one_come_range : {us src fs ws gs : List ℕ} {n t g b e high low : ℕ} → Flows us src fs ws gs n → t < n → g ≡ get_or gs t 0

@@ -2,7 +2,7 @@
 use crate::decimal::Decimal;
 use std::{fmt, io};
 
-#[derive(Drop)]
+#[derive(Clone, Copy)]
 pub struct Tally {
     pub figures: u64,
     pub met: u64,

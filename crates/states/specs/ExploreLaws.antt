@@ -101,20 +101,24 @@ module _ (a : Automaton ℕ) (f m : List ℕ) (n k : ℕ) (few : n ≤ max_state
       is = simp (turn, e, ← q.0, n_long, lt-ltb _ _ q.1, one_more);
     }
 
-    module _ (q : n ≡ index_of t (take n f)) where
-      turn_grows : next a (worklist (take n f) (take k m)) ≡ worklist (take n f ++ t ∷ []) (take (k + 1) (set m k n))
+    module _ (j : ℕ) (q : j ≡ index_of t (take n f)) where
+      turn_grows : n ≤ j → next a (worklist (take n f) (take k m)) ≡ worklist (take n f ++ t ∷ []) (take (k + 1) (set m k j))
       unfolding enter with_state
-      turn_grows = simp (turn, e, ← q, n_long, le-ltb n n (omega arith), one_more)
+      turn_grows l = simp (turn, e, ← q, n_long, le-ltb _ _ l, one_more)
 
+      turn_grown : n ≤ j → n + 1 ≡ length (next a (worklist (take n f) (take k m))).found
+      turn_grown l = rw (turn_grows l, length-append (take n f) (t ∷ []), n_long)
+
+    module _ (q : n ≡ index_of t (take n f)) where
       pub turn_new : n < max_states → Visited a f m (set f n t) (set m k n) n k (n + 1)
       turn_new h = record {
         most = omega arith;
         least = omega arith;
-        is = rw (turn_grows, add-one n, take-suc-set f n t (omega arith));
+        is = rw (turn_grows n q (omega arith), add-one n, take-suc-set f n t (omega arith));
       }
 
       pub turn_over : max_states ≤ n → Exceeds a f m n k
-      turn_over h = record { count = rw turn_grows (omega (arith, length-append (take n f) (t ∷ []), n_long)) }
+      turn_over h = record { count = omega (arith, turn_grown n q (omega arith)) }
 
 -- ---- the turns one after the other
 

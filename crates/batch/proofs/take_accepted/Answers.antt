@@ -27,7 +27,7 @@ module _ {l : RuleList} {start : Monitor} {centre : ℤ} {sigma : ℕ} {xs : Lis
 
 pub returns-then-points-ge-MAX_NUMBER : goal.returns-then-points-ge-MAX_NUMBER
 returns-then-points-ge-MAX_NUMBER c =
-    sym (left_full c.loop-i.invariant c.loop-i-test.true c.if-points-ge-MAX_NUMBER.true)
+    sym (left_full c.loop-i.invariant c.loop-i-test.true (omega arith))
 
 pub take-requires-clause-len_le_max_rules : goal.take-requires-clause-len_le_max_rules
 take-requires-clause-len_le_max_rules c =
@@ -35,21 +35,21 @@ take-requires-clause-len_le_max_rules c =
     let x = get_or s.readings.now c.loop-i.i (pos 0) in
     let offset = to_z w32 (of_z w32 x) -ℤ s.chart.centre in
     let p = accepted s.list c.requires.rules in
-    (p.1, p.2, omega (arith, c.zone_at.ensures, zone_exists offset s.chart.sigma), c.if-points-ge-MAX_NUMBER.false)
+    (p.1, p.2, omega (arith, c.zone_at.ensures, zone_exists offset s.chart.sigma), omega arith)
 
 pub returns-in-Signal : goal.returns-in-Signal
 returns-in-Signal c =
     let v = c.loop-i.invariant in
     let point = point_read v (record { sfits = search rules }) c.zone_at.ensures
     (sym c.in-Signal.is ∙ c.take.ensures) in
-    rw c.fresh.ensures (sym (left_signal v c.loop-i-test.true c.if-points-ge-MAX_NUMBER.false point))
+    rw c.fresh.ensures (sym (left_signal v c.loop-i-test.true (omega arith) point))
 
 pub loop-i-preserved : goal.loop-i-preserved
 loop-i-preserved c =
     let v = c.loop-i.invariant in
     let point = point_read v (record { sfits = search rules }) c.zone_at.ensures
     (sym c.in-Quiet.is ∙ c.take.ensures) in
-    left_quiet v c.loop-i-test.true c.if-points-ge-MAX_NUMBER.false point
+    left_quiet v c.loop-i-test.true (omega arith) point
 
 pub returns : goal.returns
 returns c = sym (left_end c.loop-i.invariant (omega arith))
