@@ -12,9 +12,9 @@ fn gather(units: &[u64], group: &[u16]) -> u64
     ensures { result ≡ sum_by (at units.now) group.now }
 {
     match group {
-        [] => 0,
-        [s] => units[usize::from(*s)],
         [s, t, rest @ ..] => units[usize::from(*s)] + units[usize::from(*t)] + gather(units, rest),
+        [s] => units[usize::from(*s)],
+        [] => 0,
     }
 }
 

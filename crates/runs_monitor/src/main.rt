@@ -1,6 +1,9 @@
 // The monitor program: a text on standard input; on standard output a line for each of its points, and a total for each node.
 #![tactic(auto)]
 
+ghost use Rattle.write.specs.Printed.{printed_bytes, OutputIs};
+ghost use Rattle.monitor_report.specs.MonitorReport.{monitor_printed};
+
 use monitor_report::{MONITOR_SIZE, monitor_output};
 use output::Failure;
 
@@ -10,6 +13,10 @@ fn main(rt: HostRuntime) -> Result<(), Failure> {
         &mut rt.stdin(),
         &mut rt.stdout(),
         &mut report,
-        |text, report| monitor_output(text, report),
+        |text: &[u8], report: &mut [u8; MONITOR_SIZE]| -> usize
+            ensures { OutputIs report.old report.new result (printed_bytes (monitor_printed text.now)) }
+        {
+            monitor_output(text, report)
+        },
     )
 }

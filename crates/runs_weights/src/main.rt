@@ -1,6 +1,9 @@
 // The weights program: a shift on standard input, the weights line of a core that is so shifted on standard output.
 #![tactic(auto)]
 
+ghost use Rattle.write.specs.Printed.{printed_bytes, OutputIs};
+ghost use Rattle.weights_report.specs.WeightsReport.{weights_printed};
+
 use output::Failure;
 use weights_report::{WEIGHTS_SIZE, weights_output};
 
@@ -10,6 +13,10 @@ fn main(rt: HostRuntime) -> Result<(), Failure> {
         &mut rt.stdin(),
         &mut rt.stdout(),
         &mut report,
-        |text, report| weights_output(text, report),
+        |text: &[u8], report: &mut [u8; WEIGHTS_SIZE]| -> usize
+            ensures { OutputIs report.old report.new result (printed_bytes (weights_printed text.now)) }
+        {
+            weights_output(text, report)
+        },
     )
 }
