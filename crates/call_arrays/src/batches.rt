@@ -2,12 +2,26 @@
 ghost use Rattle.std.specs.Prelude.{◌≡◌};
 ghost use Rattle.codes.specs.Codes.{check_code};
 ghost use Rattle.call_arrays.specs.StepArrays.{state_as, points_as};
-ghost use Rattle.call_arrays.specs.BatchArrays.{batch_checked, mask_as, number_as, batch_as};
+ghost use Rattle.call_arrays.specs.BatchArrays.{batch_checked, code_by, mask_as, number_as, numbers_as, batch_as};
 
 use batch::Batch;
 use codes::code;
 use codes::sizes::BATCH_ANSWER;
+use monitor::Monitor;
 use rules::Refusal;
+
+// The refusal of a batch that took nothing, by any number and place, else 0; the number 0 for no refusal.
+pub fn batch_code_by(taken: usize, number: u32, place: u32) -> u64
+    ensures { result ≡ code_by taken number place }
+{
+    if taken > 0 {
+        return 0;
+    }
+    if number == 0 {
+        return 0;
+    }
+    codes::code_by(number, place)
+}
 
 // The refusal of a batch that took nothing, else 0.
 pub fn batch_code(found: Batch) -> u64
@@ -39,6 +53,29 @@ fn number(refusal: Option<Refusal>) -> u32
     }
 }
 
+// The monitor for the next reading, and any four numbers of a batch.
+pub fn write_batch_by(
+    state: &mut [u64; 1],
+    points: &mut [u32; 1],
+    answer: &mut [u64; BATCH_ANSWER],
+    next: Monitor,
+    taken: usize,
+    count: u32,
+    mask: u32,
+    number: u32,
+)
+    ensures state_after { state.new ≡ state_as next state.old }
+    ensures points_after { points.new ≡ points_as next points.old }
+    ensures answer_after { answer.new ≡ numbers_as taken count mask number answer.old }
+{
+    state[0] = next.state;
+    points[0] = next.count;
+    answer[0] = taken as u64;
+    answer[1] = u64::from(count);
+    answer[2] = u64::from(mask);
+    answer[3] = u64::from(number);
+}
+
 // The monitor for the next reading, and how far the batch came.
 pub fn write_batch(
     state: &mut [u64; 1],
@@ -50,10 +87,14 @@ pub fn write_batch(
     ensures points_after { points.new ≡ points_as found.next points.old }
     ensures answer_after { answer.new ≡ batch_as found answer.old }
 {
-    state[0] = found.next.state;
-    points[0] = found.next.count;
-    answer[0] = found.taken as u64;
-    answer[1] = u64::from(found.count);
-    answer[2] = u64::from(mask(found.signal));
-    answer[3] = u64::from(number(found.refusal));
+    write_batch_by(
+        state,
+        points,
+        answer,
+        found.next,
+        found.taken,
+        found.count,
+        mask(found.signal),
+        number(found.refusal),
+    );
 }

@@ -18,9 +18,13 @@ slot_list slots count = record {
   len = count;
 }
 
--- a refusal as one number: its number in the low 32 bits, its place above them
+-- a number and a place as one number: the number in the low 32 bits, the place above them
+abbrev pub code_by : ℕ → ℕ → ℕ
+code_by number place = number + 4294967296 * place
+
+-- a refusal as one number
 abbrev pub code_of : Refusal → ℕ
-code_of x = refusal_number x + 4294967296 * refusal_place x
+code_of x = code_by (refusal_number x) (refusal_place x)
 
 -- the code of a call, whichever it is: 0 where it is accepted, else its refusal
 abbrev pub check_code : Checked → ℕ

@@ -14,6 +14,11 @@ pub const IN_CONTROL: [u32; ZONES] = [
 // Half the points in zone 1, half in zone 4.
 pub const HALVES: [u32; ZONES] = [0, 536870912, 0, 0, 536870912, 0, 0, 0];
 
+// Any number and place; 0 and 0 where nothing is refused.
+pub fn refused(out: &impl Print, number: u32, place: u32) -> io::Result<()> {
+    println!(out; " refused {number} place {place}")
+}
+
 pub fn refusal(out: &impl Print, r: Refusal) -> io::Result<()> {
-    println!(out; " refused {} place {}", r.number(), r.place())
+    refused(out, r.number(), r.place())
 }

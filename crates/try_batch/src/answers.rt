@@ -12,7 +12,7 @@ fn answer(out: &impl Print, found: Batch) -> io::Result<()> {
     print!(out; " then state {} count {}", next.state, next.count)?;
     match found.refusal {
         Some(r) => show::refusal(out, r),
-        None => println!(out; " refused 0 place 0"),
+        None => show::refused(out, 0, 0),
     }
 }
 

@@ -3,7 +3,7 @@ ghost use Rattle.std.specs.Prelude.{◌+◌, ◌≤◌, length};
 ghost use Rattle.rules.specs.Refusal.{number_of, place_of};
 ghost use Rattle.write.specs.Writes.{HasRoom, AtMost, Writes};
 ghost use Rattle.write.specs.Refused.{refused_line, refused_room};
-ghost use Rattle.write.specs.AnswerStands.{AnswerStands};
+ghost use Rattle.write.specs.AnswerStands.{ToldStands, AnswerStands};
 
 use crate::Writer;
 use rules::Refusal;
@@ -31,7 +31,23 @@ impl Writer<'_> {
     }
 }
 
-// A report's answer: its lines stand in the buffer already, so many bytes; a refusal's line is written to its start.
+// A report's answer, with any number and place for its refusal: its lines stand in the buffer already, so many bytes; a refusal's line is
+// written to its start.
+pub fn put_told(out: &mut [u8], answer: Result<usize, (u32, u32)>) -> usize
+    requires { refused_room ≤ length out.old }
+    ensures { ToldStands answer out.old out.new result }
+{
+    match answer {
+        Ok(n) => n,
+        Err((number, place)) => {
+            let mut w = Writer::new(out, 0);
+            w.refused_by(number, place);
+            w.end()
+        }
+    }
+}
+
+// The same of a refusal.
 pub fn put_answer(out: &mut [u8], answer: Result<usize, Refusal>) -> usize
     requires { refused_room ≤ length out.old }
     ensures { AnswerStands answer out.old out.new result }
