@@ -1,11 +1,13 @@
 // Every area of the table, beside the printed one.
-ghost use Rattle.std.specs.Prelude.{◌≤◌};
+ghost use Rattle.std.specs.Prelude.{◌≤◌, ◌<◌};
 
 use crate::printed::PRINTED;
 use shift::area_at;
 use std::io;
 
-// Probability one half in units of 10^-12.
+// In units of 10^-12: probability one and one half.
+const ONE: u64 = 1000000000000;
+
 const HALF: u64 = 500000000000;
 
 // A unit of 10^-12 is 2^18 / 5^12 of ours, which are 2^-30.
@@ -13,12 +15,19 @@ const TWO_18: u128 = 262144;
 
 const FIVE_12: u128 = 244140625;
 
-// How far an entry is off what is printed, which is one half more, FIVE_12 to a unit of ours.
+// The printed area from 0 to z, which is one half less than the printed chance.
+fn printed_area(printed: u64) -> u64
+    ensures { result < 1000000000000 }
+{
+    printed.saturating_sub(HALF) % ONE
+}
+
+// How far an entry is off what is printed, FIVE_12 to a unit of ours.
 fn off(z: usize, printed: u64) -> u128
     requires { z ≤ 450 }
 {
     let ours = u128::from(area_at(z)) * FIVE_12;
-    let theirs = u128::from(printed.saturating_sub(HALF)) * TWO_18;
+    let theirs = u128::from(printed_area(printed)) * TWO_18;
     ours.abs_diff(theirs)
 }
 

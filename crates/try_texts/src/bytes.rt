@@ -1,5 +1,5 @@
 // Lines of bytes, and a checksum.
-ghost use Rattle.std.specs.Prelude.{◌≤◌, length};
+ghost use Rattle.std.specs.Prelude.{◌≤◌, ◌<◌, length};
 
 // The largest prime of 32 bits.
 const MODULUS: u64 = 4294967291;
@@ -30,10 +30,17 @@ pub fn tail(bytes: &[u8], lines: usize) -> usize
     }
 }
 
+// The sum with one byte more.
+fn mixed(sum: u64, byte: u8) -> u64
+    requires { sum < 4294967291 }
+    ensures { result < 4294967291 }
+{
+    (sum * 257 + u64::from(byte)) % MODULUS
+}
+
 // A number that tells outputs of equal length apart: the bytes as digits of base 257, modulo a prime.
 pub fn checksum(bytes: &[u8]) -> u64 {
-    bytes.iter().fold(
-        0,
-        |sum, byte| (sum % MODULUS * 257 + u64::from(*byte)) % MODULUS,
-    )
+    bytes
+        .iter()
+        .fold(0, |sum, byte| mixed(sum % MODULUS, *byte))
 }
