@@ -11,13 +11,11 @@ fn gather(units: &[u64], group: &[u16]) -> u64
     requires { CanGather units.now group.now }
     ensures { result ≡ sum_by (at units.now) group.now }
 {
-    let [s, t, rest @ ..] = group else {
-        return match group {
-            [s] => units[usize::from(*s)],
-            _ => 0,
-        };
-    };
-    units[usize::from(*s)] + units[usize::from(*t)] + gather(units, rest)
+    match group {
+        [] => 0,
+        [s] => units[usize::from(*s)],
+        [s, t, rest @ ..] => units[usize::from(*s)] + units[usize::from(*t)] + gather(units, rest),
+    }
 }
 
 // What comes into a state, in two words: high * 2^30 + low.
