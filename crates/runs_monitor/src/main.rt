@@ -15,8 +15,6 @@ fn main(rt: HostRuntime) -> Result<(), Failure> {
         &mut report,
         |text: &[u8], report: &mut [u8; MONITOR_SIZE]| -> usize
             ensures { OutputIs report.old report.new result (printed_bytes (monitor_printed text.now)) }
-        {
-            monitor_output(text, report)
-        },
+        { monitor_output(text, report) },
     )
 }

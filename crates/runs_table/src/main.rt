@@ -15,8 +15,6 @@ fn main(rt: HostRuntime) -> Result<(), Failure> {
         &mut report,
         |text: &[u8], report: &mut [u8; TABLE_SIZE]| -> usize
             ensures { OutputIs report.old report.new result (printed_bytes (table_printed text.now)) }
-        {
-            table_output(text, report)
-        },
+        { table_output(text, report) },
     )
 }

@@ -15,8 +15,6 @@ fn main(rt: HostRuntime) -> Result<(), Failure> {
         &mut report,
         |text: &[u8], report: &mut [u8; WEIGHTS_SIZE]| -> usize
             ensures { OutputIs report.old report.new result (printed_bytes (weights_printed text.now)) }
-        {
-            weights_output(text, report)
-        },
+        { weights_output(text, report) },
     )
 }
