@@ -6,19 +6,16 @@ ghost use Rattle.next_row.specs.Arrivals.{CanGather, CanWeigh, Weighed, Flows, A
 use runlength::WEIGHT_TOTAL;
 use sources::Sources;
 
-// The units of the sources of a group together, two at a time: with one at a time a table takes a third longer. Whether there are two is asked
-// first, once for each two.
+// The units of the sources of a group together, two at a time: with one at a time a table takes a third longer.
 fn gather(units: &[u64], group: &[u16]) -> u64
     requires { CanGather units.now group.now }
     ensures { result ≡ sum_by (at units.now) group.now }
 {
-    let [s, t, rest @ ..] = group else {
-        return match group {
-            [s] => units[usize::from(*s)],
-            _ => 0,
-        };
-    };
-    units[usize::from(*s)] + units[usize::from(*t)] + gather(units, rest)
+    match group {
+        [] => 0,
+        [s] => units[usize::from(*s)],
+        [s, t, rest @ ..] => units[usize::from(*s)] + units[usize::from(*t)] + gather(units, rest),
+    }
 }
 
 // What comes into a state, in two words: high * 2^30 + low.

@@ -109,14 +109,14 @@ module _ (a : Automaton ℕ) (f m : List ℕ) (n k : ℕ) (few : n ≤ max_state
       turn_grown : n ≤ j → n + 1 ≡ length (next a (worklist (take n f) (take k m))).found
       turn_grown l = rw (turn_grows l, length-append (take n f) (t ∷ []), n_long)
 
-    module _ (q : n ≡ index_of t (take n f)) where
-      pub turn_new : n < max_states → Visited a f m (set f n t) (set m k n) n k (n + 1)
-      turn_new h = record {
+      pub turn_new : n ≤ j → n < max_states → Visited a f m (set f n t) (set m k j) n k (n + 1)
+      turn_new l h = record {
         most = omega arith;
         least = omega arith;
-        is = rw (turn_grows n q (omega arith), add-one n, take-suc-set f n t (omega arith));
+        is = rw (turn_grows l, add-one n, take-suc-set f n t (omega arith));
       }
 
+    module _ (q : n ≡ index_of t (take n f)) where
       pub turn_over : max_states ≤ n → Exceeds a f m n k
       turn_over h = record { count = omega (arith, turn_grown n q (omega arith)) }
 

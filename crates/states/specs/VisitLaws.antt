@@ -31,7 +31,8 @@ module _ {list : RuleList} {f m : List ℕ} {n k : ℕ} (v : Visitable list f m 
 
       pub visit_new : n < max_states → Visited (state_automaton (active_rules list)) f m (set f n t) (set m k n) n k (n + 1)
       visit_new =
-          turn_new (state_automaton (active_rules list)) f m n k v.few v.below v.can.found_room v.can.entries_room t (ap automaton_move e) missing
+          turn_new (state_automaton (active_rules list)) f m n k v.few v.below v.can.found_room v.can.entries_room t (ap automaton_move e) n missing
+          (omega arith)
 
       pub visit_over : max_states ≤ n → Exceeds (state_automaton (active_rules list)) f m n k
       visit_over =

@@ -30,8 +30,10 @@ pub fn table_report(text: &[u8], out: &mut [u8; TABLE_SIZE]) -> Result<usize, Re
     let horizon = report_horizon(read.horizon);
     let mut pmf = [0u64; MAX_ROWS as usize];
     let mut survival = [0u64; MAX_ROWS as usize];
-    let summary = table_summary(read.list, read.weights, horizon, &mut pmf, &mut survival)?;
-    Ok(table_lines::put_table(out, summary, horizon as usize, &pmf, &survival))
+    match table_summary(read.list, read.weights, horizon, &mut pmf, &mut survival) {
+        Ok(summary) => Ok(table_lines::put_table(out, summary, horizon as usize, &pmf, &survival)),
+        Err(refusal) => Err(refusal),
+    }
 }
 
 // The table program's output, from the buffer's start; what is behind it is kept.

@@ -11,25 +11,23 @@ returns-in_err-read c =
     let r : c.from_residual.result ≡ Err c.in_err-read.field-0.0 = search rules in
     rw r (text_refused a.text.now a.out.now _ (sym c.table_text.ensures ∙ c.in_err-read.was))
 
-pub returns-in_err-summary : goal.returns-in_err-summary
+pub returns-in-Err : goal.returns-in-Err
 unfolding blank
-returns-in_err-summary c =
+returns-in-Err c =
     let a = c.args in
-    let r : c.from_residual-in_err-summary.result ≡ Err c.in_err-summary.field-0.0 = search rules in
-    rw r (
     table_refused a.text.now a.out.now (sym c.table_text.ensures ∙ c.in_ok-read.was)
-    c.report_horizon-horizon.result c.report_horizon-horizon.ensures c.table_summary.result _ _ c.table_summary.ensures _ c.in_err-summary.was)
+    c.report_horizon-horizon.result c.report_horizon-horizon.ensures c.table_summary.result _ _ c.table_summary.ensures _ c.in-Err.is
 
 pub put_table-requires-clause-horizon_bound : goal.put_table-requires-clause-horizon_bound
 unfolding blank
 put_table-requires-clause-horizon_bound c =
     let t = c.in_ok-read.read in
-    rows_total (table_call t.list t.weights c.report_horizon-horizon.result blank blank) c.table_summary.ensures c.in_ok-summary.was
+    rows_total (table_call t.list t.weights c.report_horizon-horizon.result blank blank) c.table_summary.ensures c.in-Ok.is
 
-pub returns : goal.returns
+pub returns-in-Ok : goal.returns-in-Ok
 unfolding blank
-returns c =
+returns-in-Ok c =
     let a = c.args in
     table_written a.text.now a.out.now (sym c.table_text.ensures ∙ c.in_ok-read.was)
-    c.report_horizon-horizon.result c.report_horizon-horizon.ensures c.table_summary.result _ _ c.table_summary.ensures _ c.in_ok-summary.was
+    c.report_horizon-horizon.result c.report_horizon-horizon.ensures c.table_summary.result _ _ c.table_summary.ensures _ c.in-Ok.is
     _ _ c.put_table.ensures.wrote
