@@ -65,17 +65,17 @@ batch_some l m centre sigma x xs = go (reading_check l m sigma) refl
 
 -- ---- how it ends
 
-ends_after : (b : Batch) → Ends b → Ends (after 1 b)
+ends_after : (b : Batch Refusal) → Ends b → Ends (after 1 b)
 ends_after b (unrefused e) = unrefused e
 ends_after b (full e t c) = full e (omega arith) c
 
 -- by the step of a reading that is taken
-ends_taken : (m : Monitor) (count : ℕ) (t : Taken) (rest : Monitor → Batch) → Ends (after 1 (rest (next_of t))) → Ends (batch_by m (Ok (step_taken count t)) rest)
+ends_taken : (m : Monitor) (count : ℕ) (t : Taken) (rest : Monitor → Batch Refusal) → Ends (after 1 (rest (next_of t))) → Ends (batch_by m (Ok (step_taken count t)) rest)
 ends_taken m count (Taken.Quiet next) rest e = e
 ends_taken m count (Taken.Signal mask) rest e = unrefused refl
 
 module _ (l : RuleList) (centre : ℤ) (sigma : ℕ) where
-  abbrev readings : List ℤ → Monitor → Batch
+  abbrev readings : List ℤ → Monitor → Batch Refusal
   readings xs m = readings_from l m centre sigma xs
 
   first_ends : (x : ℤ) (xs : List ℤ) (m : Monitor) → Readable l sigma m → m.count < max_number
@@ -107,7 +107,7 @@ module _ (l : RuleList) (centre : ℤ) (sigma : ℕ) where
 
 -- ---- the readings left, from i on
 
-after_after : (i : ℕ) (b : Batch) → after i (after 1 b) ≡ after (i + 1) b
+after_after : (i : ℕ) (b : Batch Refusal) → after i (after 1 b) ≡ after (i + 1) b
 after_after i b = let e : i + (1 + b.taken) ≡ i + 1 + b.taken = omega arith in rw e
 
 -- at first all are left

@@ -10,11 +10,11 @@ use rules::{MAX_NUMBER, Refusal, RuleList};
 
 // How far the readings were taken. It stopped at a refusal where there is one: where `taken` is 0 the batch is refused, else reading `taken`
 // met a full count and was not taken. It stopped at a signal where the last reading taken is one, and then `signal` has its mask. Else all were
-// taken.
+// taken. Its refusal is a `rules::Refusal` where nothing else is said.
 #[derive(Clone, Copy)]
-pub struct Batch {
+pub struct Batch<R = Refusal> {
     pub taken: usize,
-    pub refusal: Option<Refusal>,
+    pub refusal: Option<R>,
     pub count: u32,
     pub signal: Option<u32>,
     pub next: Monitor,

@@ -1,31 +1,17 @@
 // A batch as a code, and in the arrays that a caller lends.
 ghost use Rattle.std.specs.Prelude.{◌≡◌};
-ghost use Rattle.codes.specs.Codes.{check_code};
+ghost use Rattle.codes.specs.Codes.{check_code_by};
 ghost use Rattle.call_arrays.specs.StepArrays.{state_as, points_as};
-ghost use Rattle.call_arrays.specs.BatchArrays.{batch_checked, code_by, mask_as, number_as, numbers_as, batch_as};
+ghost use Rattle.call_arrays.specs.BatchArrays.{batch_checked, mask_as, number_as, batch_as_by};
 
 use batch::Batch;
 use codes::code;
 use codes::sizes::BATCH_ANSWER;
-use monitor::Monitor;
-use rules::Refusal;
-
-// The refusal of a batch that took nothing, by any number and place, else 0; the number 0 for no refusal.
-pub fn batch_code_by(taken: usize, number: u32, place: u32) -> u64
-    ensures { result ≡ code_by taken number place }
-{
-    if taken > 0 {
-        return 0;
-    }
-    if number == 0 {
-        return 0;
-    }
-    codes::code_by(number, place)
-}
+use rules::Reason;
 
 // The refusal of a batch that took nothing, else 0.
-pub fn batch_code(found: Batch) -> u64
-    ensures { result ≡ check_code (batch_checked found) }
+pub fn batch_code<R: Reason>(found: Batch<R>) -> u64
+    ensures { result ≡ check_code_by R.number R.place (batch_checked found) }
 {
     if found.taken > 0 {
         return 0;
@@ -44,57 +30,31 @@ fn mask(signal: Option<u32>) -> u32
 }
 
 // The number of the refusal, 0 for none.
-fn number(refusal: Option<Refusal>) -> u32
-    ensures { result ≡ number_as refusal }
+fn number<R: Reason>(refusal: Option<R>) -> u32
+    ensures { result ≡ number_as R.number refusal }
 {
     match refusal {
-        Some(x) => x.number(),
+        Some(x) => x.told().0,
         None => 0,
     }
 }
 
-// The monitor for the next reading, and any four numbers of a batch.
-pub fn write_batch_by(
-    state: &mut [u64; 1],
-    points: &mut [u32; 1],
-    answer: &mut [u64; BATCH_ANSWER],
-    next: Monitor,
-    taken: usize,
-    count: u32,
-    mask: u32,
-    number: u32,
-)
-    ensures state_after { state.new ≡ state_as next state.old }
-    ensures points_after { points.new ≡ points_as next points.old }
-    ensures answer_after { answer.new ≡ numbers_as taken count mask number answer.old }
-{
-    state[0] = next.state;
-    points[0] = next.count;
-    answer[0] = taken as u64;
-    answer[1] = u64::from(count);
-    answer[2] = u64::from(mask);
-    answer[3] = u64::from(number);
-}
-
 // The monitor for the next reading, and how far the batch came.
-pub fn write_batch(
+pub fn write_batch<R: Reason>(
     state: &mut [u64; 1],
     points: &mut [u32; 1],
     answer: &mut [u64; BATCH_ANSWER],
-    found: Batch,
+    found: Batch<R>,
 )
     ensures state_after { state.new ≡ state_as found.next state.old }
     ensures points_after { points.new ≡ points_as found.next points.old }
-    ensures answer_after { answer.new ≡ batch_as found answer.old }
+    ensures answer_after { answer.new ≡ batch_as_by R.number found answer.old }
 {
-    write_batch_by(
-        state,
-        points,
-        answer,
-        found.next,
-        found.taken,
-        found.count,
-        mask(found.signal),
-        number(found.refusal),
-    );
+    let next = found.next;
+    state[0] = next.state;
+    points[0] = next.count;
+    answer[0] = found.taken as u64;
+    answer[1] = u64::from(found.count);
+    answer[2] = u64::from(mask(found.signal));
+    answer[3] = u64::from(number(found.refusal));
 }

@@ -6,7 +6,7 @@ mod brackets;
 mod reports;
 mod steps;
 
-pub use batches::{batch_code, batch_code_by, write_batch, write_batch_by};
+pub use batches::{batch_code, write_batch};
 pub use brackets::write_bracket;
-pub use reports::{report_code, report_code_by};
+pub use reports::report_code;
 pub use steps::write_step;

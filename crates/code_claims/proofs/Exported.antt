@@ -9,6 +9,7 @@ use Rattle.monitor.specs.declared.Monitor.{Monitor}
 use Rattle.monitor.specs.Zone.{zone_of}
 use Rattle.monitor.specs.Step.{step_of}
 use Rattle.monitor.specs.Reading.{reading_check}
+use Rattle.rules.specs.declared.refusal.Refusal.{Refusal}
 use Rattle.batch.specs.declared.Batch.{Batch}
 use Rattle.batch.specs.Batch.{batch_of}
 use Rattle.table.specs.Table.{TableCall, table_check}
@@ -54,7 +55,7 @@ batch_code l m centre sigma xs call =
     same_code batch_numbers (reading_check l m sigma) call.code (batch_says l m centre sigma xs)
 
 -- and never by 7, nor by anything else, once a reading was taken
-pub batch_taken_code : {b : Batch} {s p a s' p' a' : List ℕ} {r : ℕ} → BatchCall b s p a s' p' a' r → 1 ≤ b.taken → r ≡ 0
+pub batch_taken_code : {b : Batch Refusal} {s p a s' p' a' : List ℕ} {r : ℕ} → BatchCall b s p a s' p' a' r → 1 ≤ b.taken → r ≡ 0
 batch_taken_code {b} call t = call.code ∙ rw (ne_eqb b.taken 0 (λ z. omega arith))
 
 -- `catrovindy_table`

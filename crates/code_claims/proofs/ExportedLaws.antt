@@ -57,7 +57,7 @@ pub batch_checked_lem : (l : RuleList) (m : Monitor) (centre : ℤ) (sigma : ℕ
 unfolding all_fit
 batch_checked_lem l m centre sigma xs = go (reading_check l m sigma) refl
   where
-    ended : (b : Batch) → Ends b → batch_checked b ≡ Ok tt
+    ended : (b : Batch Refusal) → Ends b → batch_checked b ≡ Ok tt
     ended b (unrefused_lem e) = go (eqb b.taken 0)
       where
         go : (t : Bool) → cond t (unrefused b.refusal) (Ok tt) ≡ Ok tt

@@ -1,5 +1,5 @@
 -- TO BELIEVE: the code of a call, a refusal as one number, and a rule list as a caller passes it. Definitions.
-use Rattle.std.specs.Prelude.{ℕ, ◌+◌, ◌*◌, ◌/◌, ◌%◌, List, [], ◌∷◌, get_or, Err, Ok}
+use Rattle.std.specs.Prelude.{ℕ, ◌+◌, ◌*◌, ◌/◌, ◌%◌, List, [], ◌∷◌, get_or, Err, Ok, Result, ⊤}
 use Rattle.rules.specs.Check.{Checked}
 use Rattle.rules.specs.Refusal.{number_of as refusal_number, place_of as refusal_place}
 use Rattle.rules.specs.declared.Rule.{Rule}
@@ -26,10 +26,14 @@ code_by number place = number + 4294967296 * place
 abbrev pub code_of : Refusal → ℕ
 code_of x = code_by (refusal_number x) (refusal_place x)
 
--- the code of a call, whichever it is: 0 where it is accepted, else its refusal
+-- the code of a call, whichever it is: 0 where it is accepted, else its refusal; here of whatever has a number and a place
+abbrev pub check_code_by : {R : Type 0} → (R → ℕ) → (R → ℕ) → Result ⊤ R → ℕ
+check_code_by number place (Ok _) = 0
+check_code_by number place (Err x) = code_by (number x) (place x)
+
+-- and of a refusal
 abbrev pub check_code : Checked → ℕ
-check_code (Ok _) = 0
-check_code (Err x) = code_of x
+check_code = check_code_by refusal_number refusal_place
 
 -- the number and the place that a code says
 abbrev pub number_of : ℕ → ℕ

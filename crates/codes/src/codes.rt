@@ -1,23 +1,17 @@
 // What all exported functions share: a refusal as one number, and the rule list of a caller's slots.
 ghost use Rattle.std.specs.Prelude.{◌≡◌, ◌<◌};
 ghost use Rattle.rules.specs.Bounds.{max_rules};
-ghost use Rattle.codes.specs.Codes.{rule_at, slot_list, code_by, code_of};
+ghost use Rattle.codes.specs.Codes.{rule_at, slot_list, code_by};
 
 use crate::sizes::SLOTS;
-use rules::{Refusal, Rule, RuleList};
+use rules::{Reason, Rule, RuleList};
 
-// Any number and place as one number: the number in the low 32 bits, the place above them.
-pub fn code_by(number: u32, place: u32) -> u64
-    ensures { result ≡ code_by number place }
+// A refusal as one number, or any number and place: the number in the low 32 bits, the place above them. An accepted call answers 0.
+pub fn code<R: Reason>(r: R) -> u64
+    ensures { result ≡ code_by (R.number r) (R.place r) }
 {
+    let (number, place) = r.told();
     u64::from(number) + 4294967296 * u64::from(place)
-}
-
-// A refusal as one number. An accepted call answers 0.
-pub fn code(r: Refusal) -> u64
-    ensures { result ≡ code_of r }
-{
-    code_by(r.number(), r.place())
 }
 
 // The rule in a slot.

@@ -4,4 +4,4 @@
 mod codes;
 pub mod sizes;
 
-pub use codes::{code, code_by, list_of};
+pub use codes::{code, list_of};

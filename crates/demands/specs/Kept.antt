@@ -64,7 +64,7 @@ pub record ExportedKeep : Type 0 where
   pub step : {l : RuleList} {m : Monitor} {z : ℕ} {s p a s' p' a' : List ℕ} {r : ℕ} → StepCall l m z s p a s' p' a' r
       → (r ≡ 0 → ⊥)
       → (s' ≡ s) × (p' ≡ p) × (a' ≡ a)
-  pub batch : {b : Batch} {s p a s' p' a' : List ℕ} {r : ℕ} → BatchCall b s p a s' p' a' r → (r ≡ 0 → ⊥)
+  pub batch : {b : Batch Refusal} {s p a s' p' a' : List ℕ} {r : ℕ} → BatchCall b s p a s' p' a' r → (r ≡ 0 → ⊥)
       → (s' ≡ s) × (p' ≡ p) × (a' ≡ a)
   pub table : {t : TableCall} {f p' s' f' : List ℕ} {r : ℕ} → TableCalled t f p' s' f' r → (r ≡ 0 → ⊥)
       → (p' ≡ t.pmf_before) × (s' ≡ t.survival_before) × (f' ≡ f)

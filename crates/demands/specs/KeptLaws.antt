@@ -41,7 +41,7 @@ use Rattle.demands.specs.Kept.{ReportKeeps, OperationsKeep, ReportCallKeeps, Exp
 batch_keeps : (l : RuleList) (m : Monitor) (centre : ℤ) (sigma : ℕ) (xs : List ℤ) (x : Refusal)
     → batch_checked (batch_of l m centre sigma xs) ≡ Err x → (batch_of l m centre sigma xs).next ≡ m
 batch_keeps l m centre sigma xs x e =
-    ap (λ (b : Batch). b.next) (batch_refused l m centre sigma xs x (sym (batch_checked_lem l m centre sigma xs) ∙ e))
+    ap (λ (b : Batch Refusal). b.next) (batch_refused l m centre sigma xs x (sym (batch_checked_lem l m centre sigma xs) ∙ e))
 
 report_keeps : (p : Printed) → ReportKeeps p
 report_keeps (lines bytes) out x e = absurd (let z : ◌≡◌ {A = ℕ} 0 1 = cc in omega arith)
@@ -80,7 +80,7 @@ step_keeps {l} {m} {z} {s} {p} {a} {r = r} c n = rw (c.state, c.points, c.answer
     go (Ok (Step.Signal count mask next)) e = absurd (n e)
     go (Err x) e = (refl, refl, refl)
 
-batch_call_keeps : {b : Batch} {s p a s' p' a' : List ℕ} {r : ℕ} → BatchCall b s p a s' p' a' r → (r ≡ 0 → ⊥)
+batch_call_keeps : {b : Batch Refusal} {s p a s' p' a' : List ℕ} {r : ℕ} → BatchCall b s p a s' p' a' r → (r ≡ 0 → ⊥)
     → (s' ≡ s) × (p' ≡ p) × (a' ≡ a)
 batch_call_keeps {b} c n =
     let t = ne_eqb (check_code (batch_checked b)) 0 (λ e. n (c.code ∙ e)) in

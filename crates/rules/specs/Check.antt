@@ -15,7 +15,7 @@ abbrev pub Checked : Type 0
 Checked = Result ⊤ Refusal
 
 -- whether an answer accepts, whatever it then answers
-abbrev pub checked : {A : Type 0} → Result A Refusal → Checked
+abbrev pub checked : {A E : Type 0} → Result A E → Result ⊤ E
 checked (Ok a) = Ok tt
 checked (Err x) = Err x
 

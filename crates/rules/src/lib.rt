@@ -5,9 +5,11 @@ ghost use Rattle.std.specs.Prelude.{◌≡◌};
 ghost use Rattle.rules.specs.Check.{within as in_range, check_of, check_rule};
 ghost use Rattle.rules.specs.Ready.{rule_of, western_electric, duncan_list};
 
+mod reason;
 mod refusal;
 mod weights;
 
+pub use reason::Reason;
 pub use refusal::Refusal;
 pub use weights::ZoneWeights;
 

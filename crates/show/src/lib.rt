@@ -1,7 +1,7 @@
 // What the test programs share: the rule lists and the weights of their cases, and how a refusal is printed.
 #![tactic(auto)]
 
-use rules::{Refusal, ZONES};
+use rules::{Reason, ZONES};
 use std::io;
 
 pub mod lists;
@@ -14,11 +14,8 @@ pub const IN_CONTROL: [u32; ZONES] = [
 // Half the points in zone 1, half in zone 4.
 pub const HALVES: [u32; ZONES] = [0, 536870912, 0, 0, 536870912, 0, 0, 0];
 
-// Any number and place; 0 and 0 where nothing is refused.
-pub fn refused(out: &impl Print, number: u32, place: u32) -> io::Result<()> {
+// A refusal, or any number and place: 0 and 0 where nothing is refused.
+pub fn refusal(out: &impl Print, r: impl Reason) -> io::Result<()> {
+    let (number, place) = r.told();
     println!(out; " refused {number} place {place}")
-}
-
-pub fn refusal(out: &impl Print, r: Refusal) -> io::Result<()> {
-    refused(out, r.number(), r.place())
 }

@@ -116,9 +116,8 @@ module _ (a : Automaton ℕ) (f m : List ℕ) (n k : ℕ) (few : n ≤ max_state
         is = rw (turn_grows l, add-one n, take-suc-set f n t (omega arith));
       }
 
-    module _ (q : n ≡ index_of t (take n f)) where
-      pub turn_over : max_states ≤ n → Exceeds a f m n k
-      turn_over h = record { count = omega (arith, turn_grown n q (omega arith)) }
+      pub turn_over : n ≤ j → max_states ≤ n → Exceeds a f m n k
+      turn_over l h = record { count = omega (arith, turn_grown l) }
 
 -- ---- the turns one after the other
 

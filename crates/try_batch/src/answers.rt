@@ -1,10 +1,10 @@
 // A batch with its printed answer.
 use batch::{Batch, take_readings};
 use monitor::{Chart, Monitor};
-use rules::RuleList;
+use rules::{Reason, RuleList};
 use std::io;
 
-fn answer(out: &impl Print, found: Batch) -> io::Result<()> {
+fn answer<R: Reason>(out: &impl Print, found: Batch<R>) -> io::Result<()> {
     // The rules that the last reading signals by, 0 for none.
     let mask = found.signal.unwrap_or(0);
     let next = found.next;
@@ -12,7 +12,7 @@ fn answer(out: &impl Print, found: Batch) -> io::Result<()> {
     print!(out; " then state {} count {}", next.state, next.count)?;
     match found.refusal {
         Some(r) => show::refusal(out, r),
-        None => show::refused(out, 0, 0),
+        None => show::refusal(out, (0, 0)),
     }
 }
 

@@ -1,16 +1,16 @@
 // Printing answers.
 use monitor::{Monitor, Step};
-use rules::Refusal;
+use rules::Reason;
 use std::io;
 
-pub fn zoned(out: &impl Print, answer: Result<u32, Refusal>) -> io::Result<()> {
+pub fn zoned<R: Reason>(out: &impl Print, answer: Result<u32, R>) -> io::Result<()> {
     match answer {
         Ok(zone) => println!(out; " zone {zone}"),
         Err(r) => show::refusal(out, r),
     }
 }
 
-pub fn checked(out: &impl Print, answer: Result<(), Refusal>) -> io::Result<()> {
+pub fn checked<R: Reason>(out: &impl Print, answer: Result<(), R>) -> io::Result<()> {
     match answer {
         Ok(()) => println!(out; " accepted"),
         Err(r) => show::refusal(out, r),
@@ -18,10 +18,10 @@ pub fn checked(out: &impl Print, answer: Result<(), Refusal>) -> io::Result<()> 
 }
 
 // Prints the answer, and gives the monitor for the next point: the one given where the call was refused.
-pub fn step(
+pub fn step<R: Reason>(
     out: &impl Print,
     given: Monitor,
-    answer: Result<Step, Refusal>,
+    answer: Result<Step, R>,
 ) -> io::Result<Monitor> {
     match answer {
         Err(r) => {

@@ -1,6 +1,6 @@
 // Printing a plot record, doubles as bit patterns.
 use plot::{PlotItem, PlotRecord};
-use rules::Refusal;
+use rules::Reason;
 use std::io;
 
 // A number's bit pattern; what is no number, which no record holds, would print as 0.
@@ -34,7 +34,7 @@ fn record(out: &impl Print, r: PlotRecord) -> io::Result<()> {
     println!(out; " {}", if r.has_iqr { "held" } else { "none" })
 }
 
-pub fn answer(out: &impl Print, answer: Result<PlotRecord, Refusal>) -> io::Result<()> {
+pub fn answer<R: Reason>(out: &impl Print, answer: Result<PlotRecord, R>) -> io::Result<()> {
     match answer {
         Ok(r) => record(out, r),
         Err(r) => show::refusal(out, r),

@@ -1,10 +1,10 @@
 // Printing answers.
-use rules::{Refusal, RuleList, ZONES};
+use rules::{Reason, RuleList, ZONES};
 use std::io;
 use table::TableFigures;
 
 // Ends a line with the figures, or with the refusal.
-pub fn answer(out: &impl Print, answer: Result<TableFigures, Refusal>) -> io::Result<()> {
+pub fn answer<R: Reason>(out: &impl Print, answer: Result<TableFigures, R>) -> io::Result<()> {
     match answer {
         Ok(f) => {
             print!(out; " states {} left {}", f.state_count, f.survival)?;

@@ -6,7 +6,7 @@ use Rattle.rules.specs.Refusal.{place_of}
 use Rattle.rules.specs.declared.refusal.Refusal.{Refusal}
 use Rattle.write.specs.Wrote.{Wrote}
 use Rattle.write.specs.Refused.{refused_line}
-use Rattle.write.specs.AnswerStands.{AnswerStands}
+use Rattle.write.specs.AnswerStands.{AnswerStandsBy, AnswerStands}
 use Rattle.write.specs.Printed.{Printed, lines, refused_by, printed_bytes, OutputIs, Report, report, report_of}
 
 -- a refusal, or the lines and where they end
@@ -28,12 +28,13 @@ output_is {before} {after} {n} {bytes} c b =
     record { count = c; buffer = b; within = w; front = sym (length-take-le n after w) }
 
 -- the answer, case by case
-pub stands_written : {a : (Result ℕ Refusal)} {n : ℕ} (out : List ℕ) → a ≡ Ok n → AnswerStands a out out n
-stands_written out e = rw e (refl, refl)
+module _ {R : Type 0} (number place : R → ℕ) {a : Result ℕ R} where
+  pub stands_written : {n : ℕ} (out : List ℕ) → a ≡ Ok n → AnswerStandsBy number place a out out n
+  stands_written out e = rw e (refl, refl)
 
-pub stands_refused : {a : (Result ℕ Refusal)} {x : Refusal} {out out' : List ℕ} {r : ℕ} → a ≡ Err x → Wrote out 0 out' r (refused_line (number_of x) (place_of x))
-    → AnswerStands a out out' r
-stands_refused e w = rw e w
+  pub stands_refused : {x : R} {out out' : List ℕ} {r : ℕ} → a ≡ Err x → Wrote out 0 out' r (refused_line (number x) (place x))
+      → AnswerStandsBy number place a out out' r
+  stands_refused e w = rw e w
 
 pub output_by : (p : Printed) {out out' out'' : List ℕ} {r : ℕ} (a : Result ℕ Refusal) → report a out' ≡ report_of p out → AnswerStands a out' out'' r
     → OutputIs out out'' r (printed_bytes p)

@@ -5,7 +5,7 @@
 mod refused;
 mod writer;
 
-pub use refused::{put_answer, put_told};
+pub use refused::put_answer;
 pub use writer::Writer;
 
 // The most digits of a number of 64 bits, and of one of 32 bits.
